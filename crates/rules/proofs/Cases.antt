@@ -1,0 +1,312 @@
+-- The fourteen cases of the proved table, by one computed test.
+use Prim.Native.Nat.{ℕ, zero, suc, _<_, _≤_}
+use mathlib.Core.Path.{_≡_, refl, sym, subst, ap, _∙_}
+use mathlib.Core.Logic.{_⊎_, inl, inr, ⊎-elim, _↔_}
+use mathlib.Core.Bool.{Bool, true, false, not, _&&_, _||_}
+use mathlib.Core.List.{List, [], _∷_, _++_}
+use native.Mathlib.Omega.{arith}
+use lib.Dec.{T, eqb, ltb, T-not}
+use lib.ListN.{length, getD}
+use Rattle.rules.specs.Lists.{_∈_, Some}
+use Rattle.rules.specs.Walks.{Rel}
+use Rattle.rules.specs.Rules.{Relations, Mapping, Waits, Step, Fit, Trigger, message, event, Outcome, stall, go, Cell, Causes, Enters, Carrier, Stalls, ofCells}
+use Rattle.rules.specs.Plan.{Word, waits, queues, Says}
+use Rattle.rules.specs.Promises.{Accepted}
+use Rattle.rules.specs.Cases.{Given, relations, tables, relationsOf, Listed, Answer, networks, cycle, fit, unfit, mapOf, Worded, Words, Right, Case, AllRight, cases, moreCases}
+use Rattle.rules.proofs.Decided.{waits-within, step-within}
+use Rattle.rules.proofs.Given.{InRange, Every, some-get, some-map, tables-accepted}
+use Rattle.rules.proofs.Tests.{Tells, and-tells, or-tells, not-tells, eqb-tells, ltb-tells, inb, in-tells, at, rounds}
+use Rattle.rules.proofs.Model.{rowsOf, rows-tell, closure-tell, waitsRows, waits-tell, planb, plan-sound, stepb, step-tell, fitb, fit-sound, shownb, shown-sound, both}
+
+dec-of : {P : Type 0} (b : Bool) → Tells b P → Dec P
+dec-of true f = yes (f .0 tt)
+dec-of false f = no (λ p. f .1 p)
+
+-- ---- pairs
+
+abbrev listedb : List (ℕ × ℕ) → ℕ → ℕ → Bool
+listedb [] a b = false
+listedb (q ∷ l) a b = (eqb a (q .0) && eqb b (q .1)) || listedb l a b
+
+listed-tells : (l : List (ℕ × ℕ)) (a b : ℕ) → Tells (listedb l a b) (Listed l a b)
+listed-tells [] a b = (λ t. t, λ t. t)
+listed-tells (q ∷ l) a b = or-tells (eqb a (q .0) && eqb b (q .1)) (listedb l a b) (and-tells (eqb a (q .0)) (eqb b (q .1)) (eqb-tells a (q .0)) (eqb-tells b (q .1))) (listed-tells l a b)
+
+abbrev smallb : ℕ → List (ℕ × ℕ) → Bool
+smallb n [] = true
+smallb n (q ∷ l) = ltb (q .0) n && ltb (q .1) n && smallb n l
+
+listed-small : (n : ℕ) (l : List (ℕ × ℕ)) → T (smallb n l) → (a b : ℕ) → Listed l a b → (a < n) × (b < n)
+listed-small n [] t a b h = absurd h
+listed-small n (q ∷ l) t a b (inl e) =
+    let u = both (ltb (q .0) n) (ltb (q .1) n) (both (ltb (q .0) n && ltb (q .1) n) (smallb n l) t .0) in
+    (rw (e .0) (ltb-tells (q .0) n .0 (u .0)), rw (e .1) (ltb-tells (q .1) n .0 (u .1)))
+listed-small n (q ∷ l) t a b (inr h) = listed-small n l (both (ltb (q .0) n && ltb (q .1) n) (smallb n l) t .1) a b h
+
+-- ---- cells
+
+abbrev someb : (Cell → Bool) → List Cell → Bool
+someb f [] = false
+someb f (c ∷ cells) = f c || someb f cells
+
+some-tells : (P : Cell → Type 0) (f : Cell → Bool) → ((c : Cell) → Tells (f c) (P c)) → (cells : List Cell) → Tells (someb f cells) (Some P cells)
+some-tells P f tells [] = (λ t. t, λ t. t)
+some-tells P f tells (c ∷ cells) = or-tells (f c) (someb f cells) (tells c) (some-tells P f tells cells)
+
+abbrev goes : Outcome → Bool
+goes stall = false
+goes (go s) = true
+
+abbrev goesTo : Outcome → ℕ → Bool
+goesTo stall s = false
+goesTo (go r) s = eqb r s
+
+abbrev triggered : Trigger → ℕ → Bool
+triggered (message m) a = eqb m a
+triggered (event e) a = false
+
+abbrev carrierb : Trigger → List ℕ → ℕ → Bool
+carrierb (message m) sent a = eqb a m
+carrierb (event e) sent a = inb a sent
+
+⊥-of : {A : Type 0} → _≡_ {A = ℕ} 0 1 → A
+⊥-of e = absurd (omega arith)
+
+no-stall : (s : ℕ) → stall ≡ go s → _≡_ {A = ℕ} 0 1
+no-stall s e = cc
+
+no-event : (e a : ℕ) → event e ≡ message a → _≡_ {A = ℕ} 0 1
+no-event e a q = cc
+
+same-go : (r s : ℕ) → go r ≡ go s → r ≡ s
+same-go r s e = cc
+
+same-message : (m a : ℕ) → message m ≡ message a → m ≡ a
+same-message m a e = cc
+
+goes-tells : (o : Outcome) → Tells (goes o) ((s : ℕ) × (o ≡ go s))
+goes-tells stall = (λ t. absurd t, λ q. ⊥-of (no-stall (q .0) (q .1)))
+goes-tells (go s) = (λ t. (s, refl), λ q. tt)
+
+stays-tells : (o : Outcome) → Tells (not (goes o)) (o ≡ stall)
+stays-tells stall = (λ t. refl, λ q. tt)
+stays-tells (go s) = (λ t. absurd t, λ q. ⊥-of (no-stall s (sym q)))
+
+goesTo-tells : (o : Outcome) (s : ℕ) → Tells (goesTo o s) (o ≡ go s)
+goesTo-tells stall s = (λ t. absurd t, λ q. ⊥-of (no-stall s q))
+goesTo-tells (go r) s = (λ t. ap {B = Outcome} go (eqb-tells r s .0 t), λ q. eqb-tells r s .1 (same-go r s q))
+
+triggered-tells : (t : Trigger) (a : ℕ) → Tells (triggered t a) (t ≡ message a)
+triggered-tells (message m) a = (λ t. ap {B = Trigger} message (eqb-tells m a .0 t), λ q. eqb-tells m a .1 (same-message m a q))
+triggered-tells (event e) a = (λ t. absurd t, λ q. ⊥-of (no-event e a q))
+
+carrier-tells : (t : Trigger) (sent : List ℕ) (a : ℕ) → Tells (carrierb t sent a) (Carrier t sent a)
+carrier-tells (message m) sent a = eqb-tells a m
+carrier-tells (event e) sent a = in-tells a sent
+
+abbrev causeb : ℕ → ℕ → Cell → Bool
+causeb a b c = goes (c .outcome) && (triggered (c .trigger) a && inb b (c .sent))
+
+abbrev causesb : List Cell → ℕ → ℕ → Bool
+causesb cells a b = someb (causeb a b) cells
+
+causes-tell : (cells : List Cell) (a b : ℕ) → Tells (causesb cells a b) (Causes cells a b)
+causes-tell cells a b = some-tells (λ c. ((s : ℕ) × (c .outcome ≡ go s)) × (c .trigger ≡ message a) × (b ∈ c .sent)) (causeb a b) one cells
+  where
+    one : (c : Cell) → Tells (causeb a b c) (((s : ℕ) × (c .outcome ≡ go s)) × (c .trigger ≡ message a) × (b ∈ c .sent))
+    one c =
+        let r = and-tells (goes (c .outcome)) (triggered (c .trigger) a && inb b (c .sent)) (goes-tells (c .outcome)) (and-tells (triggered (c .trigger) a) (inb b (c .sent)) (triggered-tells (c .trigger) a) (in-tells b (c .sent))) in
+        (λ t. let q = r .0 t in (q .0, q .1 .0, q .1 .1), λ q. r .1 (q .0, (q .1, q .2)))
+
+abbrev enterb : ℕ → ℕ → Cell → Bool
+enterb a s d = (goesTo (d .outcome) s && not (eqb (d .state) s)) && carrierb (d .trigger) (d .sent) a
+
+enter-tells : (a s : ℕ) (d : Cell) → Tells (enterb a s d) (Enters d s × Carrier (d .trigger) (d .sent) a)
+enter-tells a s d =
+    and-tells (goesTo (d .outcome) s && not (eqb (d .state) s)) (carrierb (d .trigger) (d .sent) a)
+    (and-tells (goesTo (d .outcome) s) (not (eqb (d .state) s)) (goesTo-tells (d .outcome) s) (not-tells (eqb (d .state) s) (eqb-tells (d .state) s)))
+    (carrier-tells (d .trigger) (d .sent) a)
+
+abbrev stallb : List Cell → ℕ → ℕ → Cell → Bool
+stallb cells a b c = (triggered (c .trigger) b && not (goes (c .outcome))) && someb (enterb a (c .state)) cells
+
+abbrev stallsb : List Cell → ℕ → ℕ → Bool
+stallsb cells a b = someb (stallb cells a b) cells
+
+stalls-tell : (cells : List Cell) (a b : ℕ) → Tells (stallsb cells a b) (Stalls cells a b)
+stalls-tell cells a b = (there, back)
+  where
+    Carries : ℕ → Type 0
+    Carries s = Some (λ d. Enters d s × Carrier (d .trigger) (d .sent) a) cells
+
+    One : Cell → Type 0
+    One c = ((c .trigger ≡ message b) × (c .outcome ≡ stall)) × Carries (c .state)
+
+    r : Tells (stallsb cells a b) (Some One cells)
+    r = some-tells One (stallb cells a b) (λ c. and-tells (triggered (c .trigger) b && not (goes (c .outcome))) (someb (enterb a (c .state)) cells) (and-tells (triggered (c .trigger) b) (not (goes (c .outcome))) (triggered-tells (c .trigger) b) (stays-tells (c .outcome))) (some-tells (λ d. Enters d (c .state) × Carrier (d .trigger) (d .sent) a) (enterb a (c .state)) (enter-tells a (c .state)) cells)) cells
+
+    there : T (stallsb cells a b) → Stalls cells a b
+    there t = let q = some-get One cells (r .0 t) in (q .0 .state, q .2 (λ c. (c .state ≡ q .0 .state) × (c .trigger ≡ message b) × (c .outcome ≡ stall)) (refl, q .1 .0 .0, q .1 .0 .1), q .1 .1)
+
+    back : Stalls cells a b → T (stallsb cells a b)
+    back u = r .1 (some-map (λ c. (c .state ≡ u .0) × (c .trigger ≡ message b) × (c .outcome ≡ stall)) One (λ c q. ((q .1, q .2), subst Carries (sym (q .0)) (u .2))) cells (u .1))
+
+abbrev sentb : ℕ → List ℕ → Bool
+sentb n [] = true
+sentb n (b ∷ l) = ltb b n && sentb n l
+
+abbrev triggerb : ℕ → Trigger → Bool
+triggerb n (message m) = ltb m n
+triggerb n (event e) = true
+
+abbrev rangeb : ℕ → List Cell → Bool
+rangeb n [] = true
+rangeb n (c ∷ cells) = (triggerb n (c .trigger) && sentb n (c .sent)) && rangeb n cells
+
+sent-range : (n : ℕ) (l : List ℕ) → T (sentb n l) → (b : ℕ) → b ∈ l → b < n
+sent-range n [] t b h = absurd h
+sent-range n (x ∷ l) t b (inl e) = rw e (ltb-tells x n .0 (both (ltb x n) (sentb n l) t .0))
+sent-range n (x ∷ l) t b (inr h) = sent-range n l (both (ltb x n) (sentb n l) t .1) b h
+
+trigger-range : (n : ℕ) (t : Trigger) → T (triggerb n t) → (m : ℕ) → t ≡ message m → m < n
+trigger-range n (message k) t m e = rw (← (same-message k m e)) (ltb-tells k n .0 t)
+trigger-range n (event k) t m e = ⊥-of (no-event k m e)
+
+range-every : (n : ℕ) (cells : List Cell) → T (rangeb n cells) → Every (InRange n) cells
+range-every n [] t = tt
+range-every n (c ∷ cells) t =
+    let u = both (triggerb n (c .trigger) && sentb n (c .sent)) (rangeb n cells) t in
+    let v = both (triggerb n (c .trigger)) (sentb n (c .sent)) (u .0) in
+    ((trigger-range n (c .trigger) (v .0), sent-range n (c .sent) (v .1)), range-every n cells (u .1))
+
+-- ---- what is given
+
+abbrev cb : Given → ℕ → ℕ → Bool
+cb (relations n causes stalls) = listedb causes
+cb (tables n cells) = causesb cells
+
+abbrev sb : Given → ℕ → ℕ → Bool
+sb (relations n causes stalls) = listedb stalls
+sb (tables n cells) = stallsb cells
+
+abbrev okb : Given → Bool
+okb (relations n causes stalls) = ltb 0 n && (smallb n causes && smallb n stalls)
+okb (tables n cells) = ltb 0 n && rangeb n cells
+
+cb-tells : (g : Given) (a b : ℕ) → Tells (cb g a b) (relationsOf g .causes a b)
+cb-tells (relations n causes stalls) = listed-tells causes
+cb-tells (tables n cells) = causes-tell cells
+
+sb-tells : (g : Given) (a b : ℕ) → Tells (sb g a b) (relationsOf g .stalls a b)
+sb-tells (relations n causes stalls) = listed-tells stalls
+sb-tells (tables n cells) = stalls-tell cells
+
+accepted : (g : Given) → T (okb g) → Accepted (relationsOf g)
+accepted (relations n causes stalls) t =
+    let u = both (ltb 0 n) (smallb n causes && smallb n stalls) t in
+    let v = both (smallb n causes) (smallb n stalls) (u .1) in
+    record {
+      some-message = ltb-tells 0 n .0 (u .0);
+      causes-messages = listed-small n causes (v .0);
+      stalls-messages = listed-small n stalls (v .1);
+      causes? = λ a b. dec-of (listedb causes a b) (listed-tells causes a b);
+      stalls? = λ a b. dec-of (listedb stalls a b) (listed-tells stalls a b);
+    }
+accepted (tables n cells) t = let u = both (ltb 0 n) (rangeb n cells) t in tables-accepted n cells (ltb-tells 0 n .0 (u .0)) (range-every n cells (u .1))
+
+-- ---- the answer
+
+-- `s` tells the steps, `w` the waits steps.
+abbrev wordb : (ℕ → ℕ → Bool) → (ℕ → ℕ → Bool) → ℕ → Word → ℕ → Bool
+wordb s w m waits k = w m k
+wordb s w m queues k = not (w m k) && s m k
+
+abbrev wordedb : (ℕ → ℕ → Bool) → (ℕ → ℕ → Bool) → ℕ → List ℕ → List Word → Bool
+wordedb s w m [] [] = true
+wordedb s w m [] (v ∷ vs) = false
+wordedb s w m (k ∷ l) [] = false
+wordedb s w m (k ∷ l) (v ∷ vs) = wordb s w m v k && wordedb s w k l vs
+
+abbrev wordsb : (ℕ → ℕ → Bool) → (ℕ → ℕ → Bool) → List ℕ → List Word → Bool
+wordsb s w [] vs = false
+wordsb s w (m ∷ l) vs = wordedb s w m (l ++ m ∷ []) vs
+
+abbrev stepRows : ℕ → (ℕ → ℕ → Bool) → (ℕ → ℕ → Bool) → Mapping → List (List Bool)
+stepRows n s w φ = rowsOf n (stepb n s w φ)
+
+abbrev answerb : ℕ → (ℕ → ℕ → Bool) → (ℕ → ℕ → Bool) → Answer → Bool
+answerb n s w (networks k l) = eqb (length l) n && planb n w (mapOf l) k
+answerb n s w (cycle ms) = shownb n w w ms
+answerb n s w (fit l) = let rows = rounds n (stepRows n s w (mapOf l)) in eqb (length l) n && fitb n w (at rows)
+answerb n s w (unfit l ms vs) = let rows = stepRows n s w (mapOf l) in eqb (length l) n && (shownb n w (at rows) ms && wordsb (at rows) w ms vs)
+
+module _ (p : Relations) (acc : Accepted p) (s w : ℕ → ℕ → Bool) (s-tells : (a b : ℕ) → Tells (s a b) (p .stalls a b)) (w-tells : (a b : ℕ) → Tells (w a b) (Waits p a b)) where
+  module _ (φ : Mapping) (steps : ℕ → ℕ → Bool) (step-tells : (a b : ℕ) → Tells (steps a b) (Step p φ a b)) where
+    word-sound : (m : ℕ) (v : Word) (k : ℕ) → T (wordb steps w m v k) → Says p φ m v k
+    word-sound m waits k t = w-tells m k .0 t
+    word-sound m queues k t =
+        let u = both (not (w m k)) (steps m k) t in
+        let g : ¬ Waits p m k = not-tells (w m k) (w-tells m k) .0 (u .0) in
+        (g, ⊎-elim (λ x. absurd (g x)) (λ q. q) (step-tells m k .0 (u .1)))
+
+    worded-sound : (m : ℕ) (l : List ℕ) (vs : List Word) → T (wordedb steps w m l vs) → Worded p φ m l vs
+    worded-sound m [] [] t = tt
+    worded-sound m [] (v ∷ vs) t = t
+    worded-sound m (k ∷ l) [] t = t
+    worded-sound m (k ∷ l) (v ∷ vs) t = let u = both (wordb steps w m v k) (wordedb steps w k l vs) t in (word-sound m v k (u .0), worded-sound k l vs (u .1))
+
+    words-sound : (ms : List ℕ) (vs : List Word) → T (wordsb steps w ms vs) → Words p φ ms vs
+    words-sound [] vs t = t
+    words-sound (m ∷ l) vs t = worded-sound m (l ++ m ∷ []) vs t
+
+  answer-sound : (a : Answer) → T (answerb (p .count) s w a) → Right p a
+  answer-sound (networks k l) t =
+      let u = both (eqb (length l) (p .count)) (planb (p .count) w (mapOf l) k) t in
+      let v = plan-sound p acc w w-tells (mapOf l) k (u .1) in
+      (eqb-tells (length l) (p .count) .0 (u .0), v .0, v .1)
+  answer-sound (cycle ms) t = shown-sound (p .count) (Waits p) (Waits p) w w w-tells w-tells (waits-within p acc) ms t
+  answer-sound (fit l) t =
+      let φ = mapOf l in
+      let rows = rounds (p .count) (stepRows (p .count) s w φ) in
+      let u = both (eqb (length l) (p .count)) (fitb (p .count) w (at rows)) t in (
+        eqb-tells (length l) (p .count) .0 (u .0),
+        fit-sound p acc w w-tells φ (at rows)
+            (closure-tell (p .count) (Step p φ) (step-within p acc φ) (stepb (p .count) s w φ) (step-tell p acc w w-tells φ s s-tells)) (u .1),
+      )
+  answer-sound (unfit l ms vs) t =
+      let φ = mapOf l in
+      let steps = at (stepRows (p .count) s w φ) in
+      let tells = rows-tell (p .count) (Step p φ) (step-within p acc φ) (stepb (p .count) s w φ) (step-tell p acc w w-tells φ s s-tells) in
+      let u = both (eqb (length l) (p .count)) (shownb (p .count) w steps ms && wordsb steps w ms vs) t in
+      let v = both (shownb (p .count) w steps ms) (wordsb steps w ms vs) (u .1) in (
+        eqb-tells (length l) (p .count) .0 (u .0),
+        shown-sound (p .count) (Waits p) (Step p φ) w steps w-tells tells (step-within p acc φ) ms (v .0),
+        words-sound φ steps tells ms vs (v .1),
+      )
+
+abbrev checkb : Case → Bool
+checkb c = let rows = waitsRows (relationsOf (c .given) .count) (cb (c .given)) (sb (c .given)) in okb (c .given) && answerb (relationsOf (c .given) .count) (sb (c .given)) (at rows) (c .answer)
+
+abbrev allb : List Case → Bool
+allb [] = true
+allb (c ∷ cs) = checkb c && allb cs
+
+pub case-sound : (c : Case) → T (checkb c) → Right (relationsOf (c .given)) (c .answer)
+case-sound c t =
+    let g = c .given in
+    let p = relationsOf g in
+    let w = at (waitsRows (p .count) (cb g) (sb g)) in
+    let u = both (okb g) (answerb (p .count) (sb g) w (c .answer)) t in
+    let acc = accepted g (u .0) in
+    answer-sound p acc (sb g) w (sb-tells g) (waits-tell p acc (cb g) (sb g) (cb-tells g) (sb-tells g)) (c .answer) (u .1)
+
+pub all-sound : (cs : List Case) → T (allb cs) → AllRight cs
+all-sound [] t = tt
+all-sound (c ∷ cs) t = let u = both (checkb c) (allb cs) t in (case-sound c (u .0), all-sound cs (u .1))
+
+-- The single theorem over the list.
+pub cases-right : AllRight cases
+cases-right = all-sound cases tt
+
+pub more-right : AllRight moreCases
+more-right = all-sound moreCases tt

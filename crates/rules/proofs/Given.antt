@@ -1,0 +1,125 @@
+-- Tables whose numbers are in range are accepted.
+use Prim.Native.Nat.{ℕ, zero, suc, _<_}
+use mathlib.Core.Path.{_≡_, refl, sym, subst, ap, _∙_}
+use mathlib.Core.Logic.{_⊎_, inl, inr, ⊎-elim, _≢_}
+use mathlib.Core.List.{List, [], _∷_}
+use native.Mathlib.Decide.{ℕ-discrete}
+use native.Mathlib.Omega.{arith}
+use lib.ListN.{length, getD}
+use Rattle.rules.specs.Lists.{_∈_, Some}
+use Rattle.rules.specs.Walks.{Rel}
+use Rattle.rules.specs.Rules.{Relations, Trigger, message, event, Outcome, stall, go, Cell, Causes, Enters, Carrier, StallsIn, Stalls, ofCells, Trigger-discrete, Outcome-discrete}
+use Rattle.rules.specs.Promises.{Accepted}
+use Rattle.rules.proofs.Pigeon.{in?}
+use Rattle.rules.proofs.Decided.{both?, either?}
+
+some? : (P : Cell → Type 0) → ((c : Cell) → Dec (P c)) → (cells : List Cell) → Dec (Some P cells)
+some? P d [] = no (λ h. h)
+some? P d (c ∷ cells) = either? (d c) (some? P d cells)
+
+-- the same by index, as the code goes
+pub some-at : (P : Cell → Type 0) (cells : List Cell) (d : Cell) (i : ℕ) → i < length cells → P (getD cells i d) → Some P cells
+some-at P [] d i h q = absurd (omega arith)
+some-at P (c ∷ cells) d zero h q = inl q
+some-at P (c ∷ cells) d (suc i) h q = inr (some-at P cells d i (omega arith) q)
+
+pub at-some : (P : Cell → Type 0) (cells : List Cell) (d : Cell) → Some P cells → (i : ℕ) × (i < length cells) × P (getD cells i d)
+at-some P [] d h = absurd h
+at-some P (c ∷ cells) d (inl q) = (zero, omega arith, q)
+at-some P (c ∷ cells) d (inr h) = let r = at-some P cells d h in (suc (r .0), omega (arith, r .1), r .2)
+
+-- the numbers of a cell that stand for messages are numbers of messages
+abbrev pub InRange : ℕ → Cell → Type 0
+InRange n c = ((m : ℕ) → c .trigger ≡ message m → m < n) × ((b : ℕ) → b ∈ c .sent → b < n)
+
+abbrev pub Every : (Cell → Type 0) → List Cell → Type 0
+Every P [] = Unit {0}
+Every P (c ∷ cells) = P c × Every P cells
+
+some-every : (P Q : Cell → Type 0) (X : Type 0) → ((c : Cell) → P c → Q c → X) → (cells : List Cell) → Some P cells → Every Q cells → X
+some-every P Q X f [] s e = absurd s
+some-every P Q X f (c ∷ cells) (inl p) e = f c p (e .0)
+some-every P Q X f (c ∷ cells) (inr s) e = some-every P Q X f cells s (e .1)
+
+pub some-map : (P Q : Cell → Type 0) → ((c : Cell) → P c → Q c) → (cells : List Cell) → Some P cells → Some Q cells
+some-map P Q f [] s = s
+some-map P Q f (c ∷ cells) (inl p) = inl (f c p)
+some-map P Q f (c ∷ cells) (inr s) = inr (some-map P Q f cells s)
+
+pub some-get : (P : Cell → Type 0) (cells : List Cell) → Some P cells → (c : Cell) × P c × ((Q : Cell → Type 0) → Q c → Some Q cells)
+some-get P [] s = absurd s
+some-get P (c ∷ cells) (inl p) = (c, p, λ Q q. inl q)
+some-get P (c ∷ cells) (inr s) = let r = some-get P cells s in (r .0, r .1, λ Q q. inr (r .2 Q q))
+
+is-go? : (o : Outcome) → Dec ((s : ℕ) × (o ≡ go s))
+is-go? stall = no (λ t. differs (t .0) (t .1))
+  where
+    differs : (s : ℕ) → stall ≡ go s → ⊥
+    differs s e = let z : _≡_ {A = ℕ} 0 1 = cc in omega arith
+is-go? (go s) = yes (s, refl)
+
+module _ (n : ℕ) (cells : List Cell) (some : 0 < n) (in-range : Every (InRange n) cells) where
+  carrier-range : (t : Trigger) (sent : List ℕ) (a : ℕ) → ((m : ℕ) → t ≡ message m → m < n) → ((b : ℕ) → b ∈ sent → b < n) → Carrier t sent a → a < n
+  carrier-range (message m) sent a f g k = rw k (f m refl)
+  carrier-range (event e) sent a f g k = g a k
+
+  carrier? : (t : Trigger) (sent : List ℕ) (a : ℕ) → Dec (Carrier t sent a)
+  carrier? (message m) sent a = ℕ-discrete a m
+  carrier? (event e) sent a = in? a sent
+
+  enters? : (c : Cell) (s : ℕ) → Dec (Enters c s)
+  enters? c s = pick (Outcome-discrete ℕ-discrete (c .outcome) (go s)) (ℕ-discrete (c .state) s)
+    where
+      pick : Dec (c .outcome ≡ go s) → Dec (c .state ≡ s) → Dec (Enters c s)
+      pick (yes e) (no d) = yes (e, d)
+      pick (yes e) (yes q) = no (λ t. t .1 q)
+      pick (no d) q = no (λ t. d (t .0))
+
+  abbrev Carries : ℕ → ℕ → Type 0
+  Carries a s = Some (λ d. Enters d s × Carrier (d .trigger) (d .sent) a) cells
+
+  carries? : (a s : ℕ) → Dec (Carries a s)
+  carries? a s = some? (λ d. Enters d s × Carrier (d .trigger) (d .sent) a) (λ d. both? (enters? d s) (carrier? (d .trigger) (d .sent) a)) cells
+
+  abbrev StallCell : ℕ → ℕ → Cell → Type 0
+  StallCell a b c = (c .trigger ≡ message b) × (c .outcome ≡ stall) × Carries a (c .state)
+
+  stall-cell? : (a b : ℕ) (c : Cell) → Dec (StallCell a b c)
+  stall-cell? a b c = pick (Trigger-discrete ℕ-discrete (c .trigger) (message b)) (Outcome-discrete ℕ-discrete (c .outcome) stall) (carries? a (c .state))
+    where
+      pick : Dec (c .trigger ≡ message b) → Dec (c .outcome ≡ stall) → Dec (Carries a (c .state)) → Dec (StallCell a b c)
+      pick (yes x) (yes y) (yes z) = yes (x, y, z)
+      pick (yes x) (yes y) (no g) = no (λ t. g (t .2))
+      pick (yes x) (no g) z = no (λ t. g (t .1))
+      pick (no g) y z = no (λ t. g (t .0))
+
+  table-stalls? : (a b : ℕ) → Dec (Stalls cells a b)
+  table-stalls? a b = pick (some? (StallCell a b) (stall-cell? a b) cells)
+    where
+      pick : Dec (Some (StallCell a b) cells) → Dec (Stalls cells a b)
+      pick (yes t) = let r = some-get (StallCell a b) cells t in yes (r .0 .state, r .2 (λ c. (c .state ≡ r .0 .state) × (c .trigger ≡ message b) × (c .outcome ≡ stall)) (refl, r .1 .0, r .1 .1), r .1 .2)
+      pick (no g) = no (λ t. g (some-map (λ c. (c .state ≡ t .0) × (c .trigger ≡ message b) × (c .outcome ≡ stall)) (StallCell a b) (λ c q. (q .1, q .2, subst (Carries a) (sym (q .0)) (t .2))) cells (t .1)))
+
+  abbrev CauseCell : ℕ → ℕ → Cell → Type 0
+  CauseCell a b c = ((s : ℕ) × (c .outcome ≡ go s)) × (c .trigger ≡ message a) × (b ∈ c .sent)
+
+  cause-cell? : (a b : ℕ) (c : Cell) → Dec (CauseCell a b c)
+  cause-cell? a b c = pick (is-go? (c .outcome)) (Trigger-discrete ℕ-discrete (c .trigger) (message a)) (in? b (c .sent))
+    where
+      pick : Dec ((s : ℕ) × (c .outcome ≡ go s)) → Dec (c .trigger ≡ message a) → Dec (b ∈ c .sent) → Dec (CauseCell a b c)
+      pick (yes x) (yes y) (yes z) = yes (x, y, z)
+      pick (yes x) (yes y) (no g) = no (λ t. g (t .2))
+      pick (yes x) (no g) z = no (λ t. g (t .1))
+      pick (no g) y z = no (λ t. g (t .0))
+
+  pub tables-accepted : Accepted (ofCells cells n)
+  tables-accepted = record {
+    some-message = some;
+    causes-messages = λ a b t. some-every (CauseCell a b) (InRange n) ((a < n) × (b < n)) (λ c q r. (r .0 a (q .1), r .1 b (q .2))) cells t in-range;
+    stalls-messages = λ a b t. (
+      some-every (λ d. Enters d (t .0) × Carrier (d .trigger) (d .sent) a) (InRange n) (a < n) (λ d q r. carrier-range (d .trigger) (d .sent) a (r .0) (r .1) (q .1)) cells (t .2) in-range,
+      some-every (λ c. (c .state ≡ t .0) × (c .trigger ≡ message b) × (c .outcome ≡ stall)) (InRange n) (b < n) (λ c q r. r .0 b (q .1)) cells (t .1) in-range,
+    );
+    causes? = λ a b. some? (CauseCell a b) (cause-cell? a b) cells;
+    stalls? = table-stalls?;
+  }

@@ -1,0 +1,17 @@
+pub mod Chains
+pub mod Networks
+pub mod Pigeon
+pub mod Least
+pub mod Unique
+pub mod Search
+pub mod Cycle
+pub mod Heights
+pub mod Decided
+pub mod Promises
+pub mod Given
+pub mod Local
+pub mod Picked
+pub mod Same
+pub mod Tests
+pub mod Model
+pub mod Cases

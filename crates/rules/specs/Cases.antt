@@ -1,0 +1,141 @@
+-- The proved table of the paper (01-scope.md, "The proved table"): fourteen cases, and what it means that the rules give the answer written beside each.
+use Prim.Native.Nat.{ℕ, zero, suc, _+_, _-_}
+use mathlib.Core.Path.{_≡_}
+use mathlib.Core.Logic.{_⊎_}
+use mathlib.Core.List.{List, [], _∷_, _++_}
+use lib.ListN.{length, getD}
+use Rattle.rules.specs.Walks.{Rel}
+use Rattle.rules.specs.Rules.{MessageNo, NetworkNo, Cell, Trigger, message, event, Outcome, stall, go, Relations, ofCells, Mapping, Fit}
+use Rattle.rules.specs.Plan.{LeastCount, Printed, PlanCycle, JudgeCycle, Word, waits, queues, Says}
+
+-- f 0, f 1, up to f (n - 1)
+abbrev pub upTo {ℓ} : {A : Type ℓ} → ℕ → (ℕ → A) → List A
+upTo zero f = []
+upTo (suc n) f = f 0 ∷ upTo n (λ k. f (suc k))
+
+-- ---- what a case gives
+
+-- The pair of a and b is in the list.
+abbrev pub Listed : List (MessageNo × MessageNo) → Rel
+Listed [] a b = ⊥
+Listed (q ∷ l) a b = ((a ≡ q .0) × (b ≡ q .1)) ⊎ Listed l a b
+
+pub data Given : Type 0 where
+  -- so many messages, the causes pairs and the stalls pairs
+  relations : ℕ → List (MessageNo × MessageNo) → List (MessageNo × MessageNo) → Given
+  -- so many messages, and the cells
+  tables : ℕ → List Cell → Given
+
+abbrev pub relationsOf : Given → Relations
+relationsOf (relations n causes stalls) = record { count = n; causes = Listed causes; stalls = Listed stalls }
+relationsOf (tables n cells) = ofCells cells n
+
+-- ---- what a case answers
+
+pub data Answer : Type 0 where
+  -- class 3: the least count, and the network of each message
+  networks : ℕ → List NetworkNo → Answer
+  -- class 2: the cycle
+  cycle : List MessageNo → Answer
+  -- this mapping is fit
+  fit : List NetworkNo → Answer
+  -- this mapping is unfit: the messages of the cycle, and the word at each step
+  unfit : List NetworkNo → List MessageNo → List Word → Answer
+
+abbrev pub mapOf : List NetworkNo → Mapping
+mapOf l m = getD l m 0
+
+-- The words at the steps of the chain from m through l.
+abbrev pub Worded : Relations → Mapping → MessageNo → List MessageNo → List Word → Type 0
+Worded p φ m [] [] = Unit {0}
+Worded p φ m [] (w ∷ ws) = ⊥
+Worded p φ m (k ∷ l) [] = ⊥
+Worded p φ m (k ∷ l) (w ∷ ws) = Says p φ m w k × Worded p φ k l ws
+
+-- The words at the steps of a closed walk.
+abbrev pub Words : Relations → Mapping → List MessageNo → List Word → Type 0
+Words p φ [] ws = ⊥
+Words p φ (m ∷ l) ws = Worded p φ m (l ++ m ∷ []) ws
+
+-- The rules give this answer. A mapping has a network for each message.
+abbrev pub Right : Relations → Answer → Type 0
+Right p (networks k l) = (length l ≡ p .count) × LeastCount p k × Printed p (mapOf l)
+Right p (cycle ms) = PlanCycle p ms
+Right p (fit l) = (length l ≡ p .count) × Fit p (mapOf l)
+Right p (unfit l ms ws) = (length l ≡ p .count) × JudgeCycle p (mapOf l) ms × Words p (mapOf l) ms ws
+
+pub record Case : Type 0 where
+  pub given : Given
+  pub answer : Answer
+
+abbrev pub AllRight : List Case → Type 0
+AllRight [] = Unit {0}
+AllRight (c ∷ cs) = Right (relationsOf (c .given)) (c .answer) × AllRight cs
+
+-- ---- "Bell"
+
+-- The listing of the paper. Messages: 0 Ask, 1 Pass, 2 Give, 3 Done. Event: 0 load.
+-- States: 0 I, 1 ID, 2 V of the cache; 3 Free, 4 Wait of the dir.
+abbrev pub bell : List Cell
+bell =
+    -- cell cache I load go ID Ask
+    record { state = 0; trigger = event 0; outcome = go 1; sent = 0 ∷ [] }
+    -- cell cache ID Give go V Done
+    ∷ record { state = 1; trigger = message 2; outcome = go 2; sent = 3 ∷ [] }
+    -- cell cache V Pass go I Give
+    ∷ record { state = 2; trigger = message 1; outcome = go 0; sent = 2 ∷ [] }
+    -- cell dir Free Ask go Wait Pass
+    ∷ record { state = 3; trigger = message 0; outcome = go 4; sent = 1 ∷ [] }
+    -- cell dir Wait Ask stall
+    ∷ record { state = 4; trigger = message 0; outcome = stall; sent = [] }
+    -- cell dir Wait Done go Free
+    ∷ record { state = 4; trigger = message 3; outcome = go 3; sent = [] }
+    ∷ []
+
+-- cell cache ID Pass stall
+abbrev pub passStalls : Cell
+passStalls = record { state = 1; trigger = message 1; outcome = stall; sent = [] }
+
+-- ---- the fourteen, in the paper's order
+
+abbrev pub cases : List Case
+cases =
+    -- 1. One message, no pairs: 1 network.
+    record { given = relations 1 [] []; answer = networks 1 (0 ∷ []) }
+    -- 2. a stalls a, no causes: 1 network.
+    ∷ record { given = relations 1 [] ((0, 0) ∷ []); answer = networks 1 (0 ∷ []) }
+    -- 3. a stalls a, a causes a: class 2, cycle a.
+    ∷ record { given = relations 1 ((0, 0) ∷ []) ((0, 0) ∷ []); answer = cycle (0 ∷ []) }
+    -- 4. Four messages in a causes chain, no stalls: 1.
+    ∷ record { given = relations 4 ((0, 1) ∷ (1, 2) ∷ (2, 3) ∷ []) []; answer = networks 1 (0 ∷ 0 ∷ 0 ∷ 0 ∷ []) }
+    -- 5. Bell: 2. Ask 1; Pass, Give and Done 0.
+    ∷ record { given = tables 4 bell; answer = networks 2 (1 ∷ 0 ∷ 0 ∷ 0 ∷ []) }
+    -- 6. Bell and `cell cache ID Pass stall`: class 2, cycle Pass.
+    ∷ record { given = tables 4 (bell ++ passStalls ∷ []); answer = cycle (1 ∷ []) }
+    -- 7. A, B, C, D; A causes B, D causes C; A stalls A, D stalls B: 3 networks, A 2, B 1, C 0, D 0.
+    ∷ record { given = relations 4 ((0, 1) ∷ (3, 2) ∷ []) ((0, 0) ∷ (3, 1) ∷ []); answer = networks 3 (2 ∷ 1 ∷ 0 ∷ 0 ∷ []) }
+    -- 8. a, b, c, d; a causes b, c causes d; a stalls d, c stalls b: cycle b d.
+    ∷ record { given = relations 4 ((0, 1) ∷ (2, 3) ∷ []) ((0, 3) ∷ (2, 1) ∷ []); answer = cycle (1 ∷ 3 ∷ []) }
+    -- 9. CleanUnique 0, Inv 1, Inv-Ack 2, Resp 3, Comp 4 in a causes chain; CleanUnique stalls ReadShared 5: 2, ReadShared alone in 1.
+    ∷ record { given = relations 6 ((0, 1) ∷ (1, 2) ∷ (2, 3) ∷ (3, 4) ∷ []) ((0, 5) ∷ []); answer = networks 2 (0 ∷ 0 ∷ 0 ∷ 0 ∷ 0 ∷ 1 ∷ []) }
+    -- 10. 32 messages, i causes i+1, each stalls itself: 32, message i in 31-i.
+    ∷ record { given = relations 32 (upTo 31 (λ i. (i, i + 1))) (upTo 32 (λ i. (i, i))); answer = networks 32 (upTo 32 (λ i. 31 - i)) }
+    -- 11. Bell, all in 0: unfit; Ask waits Pass, Pass queues Ask.
+    ∷ record { given = tables 4 bell; answer = unfit (0 ∷ 0 ∷ 0 ∷ 0 ∷ []) (0 ∷ 1 ∷ []) (waits ∷ queues ∷ []) }
+    -- 12. Bell, Ask and Give in 0, others in 1: unfit; Ask waits Give, Give queues Ask.
+    ∷ record { given = tables 4 bell; answer = unfit (0 ∷ 1 ∷ 0 ∷ 1 ∷ []) (0 ∷ 2 ∷ []) (waits ∷ queues ∷ []) }
+    -- 13. Bell, Ask 5, others 9: fit.
+    ∷ record { given = tables 4 bell; answer = fit (5 ∷ 9 ∷ 9 ∷ 9 ∷ []) }
+    -- 14. Bell, printed mapping: fit.
+    ∷ record { given = tables 4 bell; answer = fit (1 ∷ 0 ∷ 0 ∷ 0 ∷ []) }
+    ∷ []
+
+-- ---- cases of our own, where no case of the paper tells a wrong turn from the right one
+
+abbrev pub moreCases : List Case
+moreCases =
+    -- a and b stall each other, no causes, both in 0: each queues behind the other, and nothing waits. Fit.
+    record { given = relations 2 [] ((0, 1) ∷ (1, 0) ∷ []); answer = fit (0 ∷ 0 ∷ []) }
+    -- a stalls a, a causes b, both stand in 0 and are stalled: the step from b to a is queues, that from a to b is waits and queues both.
+    ∷ record { given = relations 2 ((0, 1) ∷ []) ((0, 0) ∷ (1, 1) ∷ []); answer = unfit (0 ∷ 0 ∷ []) (0 ∷ 1 ∷ []) (waits ∷ queues ∷ []) }
+    ∷ []

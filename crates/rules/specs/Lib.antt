@@ -1,0 +1,6 @@
+pub mod Lists
+pub mod Walks
+pub mod Rules
+pub mod Plan
+pub mod Promises
+pub mod Cases

@@ -1,0 +1,52 @@
+// The numbers that the paper keeps apart. Message, network and state numbers all start at 0, and one has been read as another before:
+// each is a type of its own, and only `index` turns one into the place of a row.
+ghost use mathlib.Core.Path.{_≡_};
+ghost use Prim.Native.Nat.{_<_};
+
+// A message's number, in the order of the file.
+pub struct Message(pub u8);
+
+// The number of a virtual network.
+pub struct Network(pub u8);
+
+// A state's number, in the order of the file, over both controllers.
+pub struct State(pub u8);
+
+// The number of a core access, in the order of the file.
+pub struct Event(pub u8);
+
+impl Message {
+    // The message's place in a table that has a row for each message.
+    pub fn index(self) -> usize
+        ensures { λ r. ⌜ r ≡ self .0 ⌝ }
+    {
+        self.0 as usize
+    }
+}
+
+impl Network {
+    // The network's place in a table that has a row for each network.
+    pub fn index(self) -> usize
+        ensures { λ r. ⌜ r ≡ self .0 ⌝ }
+    {
+        self.0 as usize
+    }
+}
+
+impl State {
+    // The state's place in a table that has a row for each state.
+    pub fn index(self) -> usize
+        ensures { λ r. ⌜ r ≡ self .0 ⌝ }
+    {
+        self.0 as usize
+    }
+}
+
+impl Event {
+    // The event's place in a table that has a row for each event.
+    pub fn index(self) -> usize
+        ensures { λ r. ⌜ r ≡ self .0 ⌝ }
+    {
+        self.0 as usize
+    }
+}
