@@ -6,7 +6,7 @@ use Rattle.rules.specs.Walks.{Rel, Chain, Begins}
 use Rattle.rules.specs.Plan.{Height, Counts, Pairs, Closed, Shown}
 use Rattle.rules.proofs.Chains.{chain-map}
 
-counts-map : (P Q : ℕ → Type 0) → ((j : ℕ) → P j ↔ Q j) → (n k : ℕ) → Counts P n k → Counts Q n k
+pub counts-map : (P Q : ℕ → Type 0) → ((j : ℕ) → P j ↔ Q j) → (n k : ℕ) → Counts P n k → Counts Q n k
 counts-map P Q f zero k e = e
 counts-map P Q f (suc n) k (inl t) = inl (t .0, f n .0 (t .1), counts-map P Q f n (t .0) (t .2), t .3)
 counts-map P Q f (suc n) k (inr t) = inr (λ q. t .0 (f n .1 q), counts-map P Q f n k (t .1))

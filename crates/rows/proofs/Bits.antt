@@ -1,0 +1,188 @@
+-- Bits of rows, for the code's `|`, `&`, `<<`, `>>`, `trailing_zeros` and `count_ones`.
+use Prim.Native.Nat.{ℕ, zero, suc, _+_, _-_, _*_, _<_, _≤_, _/_, _%_, _^_, min, max}
+use mathlib.Core.Path.{_≡_, refl, sym, subst, ap, _∙_}
+use mathlib.Core.Logic.{_⊎_, inl, inr, ⊎-elim, _↔_}
+use native.Mathlib.Nat.{mod-lt, mul-div-cancel, div-self, div-eq-of-lt, pow-suc, add-comm, div-one, zero-div, le-dest}
+use native.Mathlib.Decide.{ℕ-discrete, decLe, decLt}
+use native.Mathlib.Numerals.{add-one}
+use native.Mathlib.Omega.{arith}
+use lib.Bits.{bitAnd, bitOr, and-step, or-step, and-shr, or-shr, and-mask, and-le-l}
+use lib.Count.{ones, onesIn, ones-step, trailingZeros, trailing-le, under}
+use lib.Pow.{shr-shr, pow-pos, pow-add, pow-lt, shl-shr}
+use Rattle.rules.specs.Plan.{Counts}
+use Rattle.rules.proofs.Search.{First, None, first-below}
+use Rattle.rules.proofs.Same.{counts-map}
+use Rattle.rows.specs.Rows.{Bit}
+use Rattle.rules.proofs.Cycle.{compare}
+
+pub bit? : (row j : ℕ) → Dec (Bit row j)
+bit? row j = ℕ-discrete (row / 2 ^ j % 2) 1
+
+digit : (x : ℕ) → (x % 2 ≡ 0) ⊎ (x % 2 ≡ 1)
+digit x = pick (ℕ-discrete (x % 2) 1)
+  where
+    pick : Dec (x % 2 ≡ 1) → (x % 2 ≡ 0) ⊎ (x % 2 ≡ 1)
+    pick (yes e) = inr e
+    pick (no d) = inl (omega arith)
+
+pub bit-or : (a b j : ℕ) → Bit (bitOr a b) j ↔ (Bit a j ⊎ Bit b j)
+bit-or a b j = (λ h. there h (digit x) (digit y), ⊎-elim (λ h. omega (arith, e, f)) (λ h. omega (arith, e, f)))
+  where
+    x : ℕ
+    x = a / 2 ^ j
+
+    y : ℕ
+    y = b / 2 ^ j
+
+    e : bitOr a b / 2 ^ j ≡ bitOr x y
+    e = or-shr a b j
+
+    f : bitOr x y ≡ bitOr (x / 2) (y / 2) * 2 + max (x % 2) (y % 2)
+    f = or-step x y
+
+    there : Bit (bitOr a b) j → (x % 2 ≡ 0) ⊎ (x % 2 ≡ 1) → (y % 2 ≡ 0) ⊎ (y % 2 ≡ 1) → Bit a j ⊎ Bit b j
+    there h (inr u) v = inl u
+    there h (inl u) (inr v) = inr v
+    there h (inl u) (inl v) = absurd (omega (arith, e, f))
+
+pub bit-and : (a b j : ℕ) → Bit (bitAnd a b) j ↔ (Bit a j × Bit b j)
+bit-and a b j = (λ h. (omega (arith, e, f), omega (arith, e, f)), λ t. omega (arith, e, f, t .0, t .1))
+  where
+    x : ℕ
+    x = a / 2 ^ j
+
+    y : ℕ
+    y = b / 2 ^ j
+
+    e : bitAnd a b / 2 ^ j ≡ bitAnd x y
+    e = and-shr a b j
+
+    f : bitAnd x y ≡ bitAnd (x / 2) (y / 2) * 2 + min (x % 2) (y % 2)
+    f = and-step x y
+
+-- the test `row >> j & 1`
+pub bit-test : (row j : ℕ) → bitAnd (row / 2 ^ j) 1 ≡ row / 2 ^ j % 2
+bit-test row j = and-mask (row / 2 ^ j) 1
+
+-- no bit in 0
+pub bit-zero : (j : ℕ) → ¬ Bit 0 j
+bit-zero j h = omega (arith, zero-div (2 ^ j))
+
+pow-shr : (d i j : ℕ) → j ≡ d + i → 2 ^ j / 2 ^ i ≡ 2 ^ d
+pow-shr d i j e = rw (e, pow-add) (shl-shr (2 ^ d) i)
+
+-- the one bit of `1 << j`
+pub bit-pow : (j i : ℕ) → Bit (2 ^ j) i ↔ (i ≡ j)
+bit-pow j i = (λ h. there h (compare i j), λ e. rw e (omega (arith, div-self (pow-pos j))))
+  where
+    there : Bit (2 ^ j) i → (i < j) ⊎ ((i ≡ j) ⊎ (j < i)) → i ≡ j
+    there h (inr (inl e)) = e
+    there h (inr (inr l)) = absurd (omega (arith, div-eq-of-lt (pow-lt l)))
+    there h (inl l) =
+        let d = le-dest l in
+        let e : j ≡ suc (d .0) + i = omega (arith, d .1) in
+        absurd (omega (arith, pow-shr (suc (d .0)) i j e, pow-suc 2 (d .0)))
+
+-- the bits of half a row
+pub bit-half : (row j : ℕ) → Bit (row / 2) j ↔ Bit row (suc j)
+bit-half row j =
+    let e : row / 2 / 2 ^ j ≡ row / 2 ^ suc j = shr-shr row 1 j ∙ ap (λ (k : ℕ). row / 2 ^ k) (add-comm 1 j ∙ add-one j) in
+    (λ h. omega (arith, e), λ h. omega (arith, e))
+
+-- ---- the lowest bit
+
+under-cases : (d t : ℕ) → d < 2 → ((d ≡ 0) × (under d t ≡ suc t)) ⊎ ((d ≡ 1) × (under d t ≡ 0))
+under-cases zero t h = inl (refl, refl)
+under-cases (suc zero) t h = inr (refl, refl)
+under-cases (suc (suc d)) t h = absurd (omega arith)
+
+pub trailing-bit : (w row : ℕ) → trailingZeros w row < w → Bit row (trailingZeros w row)
+unfolding trailingZeros
+trailing-bit zero row h = absurd (omega arith)
+trailing-bit (suc w) row h = go (trailing-bit w (row / 2)) (under-cases (row % 2) (trailingZeros w (row / 2)) (omega arith))
+  where
+    go : (trailingZeros w (row / 2) < w → Bit (row / 2) (trailingZeros w (row / 2)))
+        → ((row % 2 ≡ 0) × (under (row % 2) (trailingZeros w (row / 2)) ≡ suc (trailingZeros w (row / 2)))) ⊎ ((row % 2 ≡ 1) × (under (row % 2) (trailingZeros w (row / 2)) ≡ 0))
+        → Bit row (under (row % 2) (trailingZeros w (row / 2)))
+    go ih (inl t) = rw (t .1) (bit-half row (trailingZeros w (row / 2)) .0 (ih (omega (arith, t .1))))
+    go ih (inr t) = rw (t .1) (omega (arith, div-one row, t .0))
+
+-- below it there is none; where the count is the whole width, there is no bit below the width
+pub trailing-none : (w row j : ℕ) → j < trailingZeros w row → ¬ Bit row j
+unfolding trailingZeros
+trailing-none zero row j h b = absurd (omega arith)
+trailing-none (suc w) row zero h b = go (under-cases (row % 2) (trailingZeros w (row / 2)) (omega arith))
+  where
+    go : ((row % 2 ≡ 0) × (under (row % 2) (trailingZeros w (row / 2)) ≡ suc (trailingZeros w (row / 2)))) ⊎ ((row % 2 ≡ 1) × (under (row % 2) (trailingZeros w (row / 2)) ≡ 0)) → ⊥
+    go (inl t) = omega (arith, t .0, div-one row)
+    go (inr t) = omega (arith, t .1)
+trailing-none (suc w) row (suc j) h b = go (trailing-none w (row / 2) j) (under-cases (row % 2) (trailingZeros w (row / 2)) (omega arith))
+  where
+    go : (j < trailingZeros w (row / 2) → ¬ Bit (row / 2) j)
+        → ((row % 2 ≡ 0) × (under (row % 2) (trailingZeros w (row / 2)) ≡ suc (trailingZeros w (row / 2)))) ⊎ ((row % 2 ≡ 1) × (under (row % 2) (trailingZeros w (row / 2)) ≡ 0)) → ⊥
+    go ih (inl t) = ih (omega (arith, t .1)) (bit-half row j .1 b)
+    go ih (inr t) = omega (arith, t .1)
+
+-- ---- a row that is zero, or has a bit
+
+pub no-bits : (w row : ℕ) → row < 2 ^ w → ((j : ℕ) → j < w → ¬ Bit row j) → row ≡ 0
+no-bits zero row h f = omega arith
+no-bits (suc w) row h f =
+    let low : ¬ (row % 2 ≡ 1) = λ e. f 0 (omega arith) (omega (arith, div-one row)) in
+    omega (arith, low, no-bits w (row / 2) (omega (arith, pow-suc 2 w)) (λ j k b. f (suc j) (omega arith) (bit-half row j .0 b)))
+
+-- ---- counting bits
+
+-- the lowest number counted first
+counts-yes : (P : ℕ → Type 0) → P 0 → (n k : ℕ) → Counts (λ j. P (suc j)) n k → Counts P (suc n) (suc k)
+counts-yes P p zero k e = inl (0, p, refl, ap suc e)
+counts-yes P p (suc n) k (inl t) = inl (suc (t .0), t .1, counts-yes P p n (t .0) (t .2), ap suc (t .3))
+counts-yes P p (suc n) k (inr t) = inr (t .0, counts-yes P p n k (t .1))
+
+counts-no : (P : ℕ → Type 0) → ¬ P 0 → (n k : ℕ) → Counts (λ j. P (suc j)) n k → Counts P (suc n) k
+counts-no P p zero k e = inr (p, e)
+counts-no P p (suc n) k (inl t) = inl (t .0, t .1, counts-no P p n (t .0) (t .2), t .3)
+counts-no P p (suc n) k (inr t) = inr (t .0, counts-no P p n k (t .1))
+
+-- `count_ones` counts the bits of a row
+pub ones-counts : (w row : ℕ) → row < 2 ^ w → Counts (Bit row) w (ones row)
+unfolding ones
+ones-counts zero row h = subst (λ (r : ℕ). ones r ≡ 0) (sym (zero-of row (omega arith))) refl
+  where
+    zero-of : (r : ℕ) → r < 1 → r ≡ 0
+    zero-of r k = omega arith
+ones-counts (suc w) row h = go (counts-map (Bit (row / 2)) (λ j. Bit row (suc j)) (bit-half row) w (ones (row / 2)) (ones-counts w (row / 2) (omega (arith, pow-suc 2 w)))) (ℕ-discrete (row % 2) 1)
+  where
+    go : Counts (λ j. Bit row (suc j)) w (ones (row / 2)) → Dec (row % 2 ≡ 1) → Counts (Bit row) (suc w) (ones row)
+    go c (yes e) = rw (one e) (counts-yes (Bit row) (omega (arith, div-one row)) w (ones (row / 2)) c)
+      where
+        one : row % 2 ≡ 1 → ones row ≡ suc (ones (row / 2))
+        one e = omega (arith, ones-step row)
+    go c (no d) = rw (none d) (counts-no (Bit row) (λ b. d (omega (arith, div-one row))) w (ones (row / 2)) c)
+      where
+        none : ¬ (row % 2 ≡ 1) → ones row ≡ ones (row / 2)
+        none d = omega (arith, ones-step row)
+
+-- ---- two rows meet: a common bit
+
+pub meet-yes : (w a b : ℕ) → a < 2 ^ w → ¬ (bitAnd a b ≡ 0) → (z : ℕ) × Bit a z × Bit b z
+meet-yes w a b h g = go (first-below (Bit (bitAnd a b)) (bit? (bitAnd a b)) w)
+  where
+    go : First (Bit (bitAnd a b)) w ⊎ None (Bit (bitAnd a b)) w → (z : ℕ) × Bit a z × Bit b z
+    go (inl t) = let r = bit-and a b (t .0) .0 (t .2) in (t .0, r .0, r .1)
+    go (inr f) = absurd (g (no-bits w (bitAnd a b) (omega (arith, and-le-l a b)) f))
+
+pub meet-no : (a b : ℕ) → bitAnd a b ≡ 0 → (z : ℕ) → Bit a z → ¬ Bit b z
+meet-no a b e z x y = bit-zero z (subst (λ (r : ℕ). Bit r z) e (bit-and a b z .1 (x, y)))
+
+-- the lowest bit of a row that is not 0
+pub lowest : (w row : ℕ) → row < 2 ^ w → ¬ (row ≡ 0) → (trailingZeros w row < w) × Bit row (trailingZeros w row) × ((z : ℕ) → Bit row z → trailingZeros w row ≤ z)
+lowest w row h g = go (decLt (trailingZeros w row) w)
+  where
+    go : Dec (trailingZeros w row < w) → (trailingZeros w row < w) × Bit row (trailingZeros w row) × ((z : ℕ) → Bit row z → trailingZeros w row ≤ z)
+    go (no d) = absurd (g (no-bits w row h (λ j k. trailing-none w row j (omega (arith, trailing-le w row)))))
+    go (yes k) = (k, trailing-bit w row k, λ z b. least z b (decLe (trailingZeros w row) z))
+      where
+        least : (z : ℕ) → Bit row z → Dec (trailingZeros w row ≤ z) → trailingZeros w row ≤ z
+        least z b (yes q) = q
+        least z b (no q) = absurd (trailing-none w row z (omega arith) b)

@@ -1,0 +1,3 @@
+pub mod Bits
+pub mod Given
+pub mod Warshall
