@@ -15,3 +15,4 @@ pub mod Same
 pub mod Tests
 pub mod Model
 pub mod Cases
+pub mod Determined

@@ -132,10 +132,23 @@ cases =
 
 -- ---- cases of our own, where no case of the paper tells a wrong turn from the right one
 
+-- Messages: 0 Ask, 1 Pass, 2 Done. States: 0 Free, 1 Wait of the dir. Done keeps the directory in Wait, so it is no carrier of Wait.
+abbrev pub stays : List Cell
+stays =
+    -- cell dir Free Ask go Wait
+    record { state = 0; trigger = message 0; outcome = go 1; sent = [] }
+    -- cell dir Wait Ask stall
+    ∷ record { state = 1; trigger = message 0; outcome = stall; sent = [] }
+    -- cell dir Wait Done go Wait Pass
+    ∷ record { state = 1; trigger = message 2; outcome = go 1; sent = 1 ∷ [] }
+    ∷ []
+
 abbrev pub moreCases : List Case
 moreCases =
     -- a and b stall each other, no causes, both in 0: each queues behind the other, and nothing waits. Fit.
     record { given = relations 2 [] ((0, 1) ∷ (1, 0) ∷ []); answer = fit (0 ∷ 0 ∷ []) }
     -- a stalls a, a causes b, both stand in 0 and are stalled: the step from b to a is queues, that from a to b is waits and queues both.
     ∷ record { given = relations 2 ((0, 1) ∷ []) ((0, 0) ∷ (1, 1) ∷ []); answer = unfit (0 ∷ 0 ∷ []) (0 ∷ 1 ∷ []) (waits ∷ queues ∷ []) }
+    -- A cell that stays in its state enters nothing (rule 2): only Ask stalls Ask, and Ask causes nothing. 1 network.
+    ∷ record { given = tables 3 stays; answer = networks 1 (0 ∷ 0 ∷ 0 ∷ []) }
     ∷ []

@@ -1,7 +1,6 @@
 // The numbers that the paper keeps apart. Message, network and state numbers all start at 0, and one has been read as another before:
 // each is a type of its own, and only `index` turns one into the place of a row.
 ghost use mathlib.Core.Path.{_≡_};
-ghost use Prim.Native.Nat.{_<_};
 
 // A message's number, in the order of the file.
 pub struct Message(pub u8);
@@ -20,7 +19,8 @@ impl Message {
     pub fn index(self) -> usize
         ensures { λ r. ⌜ r ≡ self .0 ⌝ }
     {
-        self.0 as usize
+        let message = self.0;
+        message as usize
     }
 }
 
@@ -29,7 +29,8 @@ impl Network {
     pub fn index(self) -> usize
         ensures { λ r. ⌜ r ≡ self .0 ⌝ }
     {
-        self.0 as usize
+        let network = self.0;
+        network as usize
     }
 }
 
@@ -38,7 +39,8 @@ impl State {
     pub fn index(self) -> usize
         ensures { λ r. ⌜ r ≡ self .0 ⌝ }
     {
-        self.0 as usize
+        let state = self.0;
+        state as usize
     }
 }
 
@@ -47,6 +49,7 @@ impl Event {
     pub fn index(self) -> usize
         ensures { λ r. ⌜ r ≡ self .0 ⌝ }
     {
-        self.0 as usize
+        let event = self.0;
+        event as usize
     }
 }
