@@ -8,7 +8,7 @@ use native.Mathlib.Omega.{arith}
 use lib.ListN.{length, getD}
 use Rattle.rules.specs.Lists.{_∈_, Some}
 use Rattle.rules.specs.Walks.{Rel}
-use Rattle.rules.specs.Rules.{Relations, Trigger, message, event, Outcome, stall, go, Cell, Causes, Enters, Carrier, StallsIn, Stalls, ofCells, Trigger-discrete, Outcome-discrete}
+use Rattle.rules.specs.Rules.{Relations, Trigger, message, event, Outcome, stall, go, Cell, Causes, Enters, Carrier, StallsIn, Carries, Stalls, NoEntry, ofCells, Trigger-discrete, Outcome-discrete}
 use Rattle.rules.specs.Promises.{Accepted}
 use Rattle.rules.proofs.Pigeon.{in?}
 use Rattle.rules.proofs.Decided.{both?, either?}
@@ -58,36 +58,67 @@ is-go? stall = no (λ t. differs (t .0) (t .1))
     differs s e = let z : _≡_ {A = ℕ} 0 1 = cc in omega arith
 is-go? (go s) = yes (s, refl)
 
+carrier? : (t : Trigger) (sent : List ℕ) (a : ℕ) → Dec (Carrier t sent a)
+carrier? (message m) sent a = ℕ-discrete a m
+carrier? (event e) sent a = in? a sent
+
+enters? : (c : Cell) (s : ℕ) → Dec (Enters c s)
+enters? c s = pick (Outcome-discrete ℕ-discrete (c .outcome) (go s)) (ℕ-discrete (c .state) s)
+  where
+    pick : Dec (c .outcome ≡ go s) → Dec (c .state ≡ s) → Dec (Enters c s)
+    pick (yes e) (no d) = yes (e, d)
+    pick (yes e) (yes q) = no (λ t. t .1 q)
+    pick (no d) q = no (λ t. d (t .0))
+
+-- some message is a carrier of the cell
+any-carrier? : (t : Trigger) (sent : List ℕ) → Dec ((a : ℕ) × Carrier t sent a)
+any-carrier? (message m) sent = yes (m, refl)
+any-carrier? (event e) [] = no (λ t. t .1)
+any-carrier? (event e) (b ∷ sent) = yes (b, inl refl)
+
+-- some message is a carrier of a cell that enters s
+any-carries? : (cells : List Cell) (s : ℕ) → Dec ((a : ℕ) × Carries cells a s)
+any-carries? cells s = pick (some? Open (λ d. both? (enters? d s) (any-carrier? (d .trigger) (d .sent))) cells)
+  where
+    Open : Cell → Type 0
+    Open d = Enters d s × ((a : ℕ) × Carrier (d .trigger) (d .sent) a)
+
+    pick : Dec (Some Open cells) → Dec ((a : ℕ) × Carries cells a s)
+    pick (yes t) = let r = some-get Open cells t in yes (r .1 .1 .0, r .2 (λ d. Enters d s × Carrier (d .trigger) (d .sent) (r .1 .1 .0)) (r .1 .0, r .1 .1 .1))
+    pick (no g) = no (λ t. g (some-map (λ d. Enters d s × Carrier (d .trigger) (d .sent) (t .0)) Open (λ d q. (q .0, (t .0, q .1))) cells (t .1)))
+
+is-message? : (t : Trigger) → Dec ((b : ℕ) × (t ≡ message b))
+is-message? (message m) = yes (m, refl)
+is-message? (event e) = no (λ t. differs (t .0) (t .1))
+  where
+    differs : (b : ℕ) → event e ≡ message b → ⊥
+    differs b q = let z : _≡_ {A = ℕ} 0 1 = cc in omega arith
+
+-- whether refusal 13 is given for the cell
+pub no-entry? : (cells : List Cell) (c : Cell) → Dec (NoEntry cells c)
+no-entry? cells c = pick (is-message? (c .trigger)) (Outcome-discrete ℕ-discrete (c .outcome) stall) (any-carries? cells (c .state))
+  where
+    pick : Dec ((b : ℕ) × (c .trigger ≡ message b)) → Dec (c .outcome ≡ stall) → Dec ((a : ℕ) × Carries cells a (c .state)) → Dec (NoEntry cells c)
+    pick (yes x) (yes y) (no g) = yes (x, y, λ a h. g (a, h))
+    pick (yes x) (yes y) (yes z) = no (λ t. t .2 (z .0) (z .1))
+    pick (yes x) (no g) z = no (λ t. g (t .1))
+    pick (no g) y z = no (λ t. g (t .0))
+
 module _ (n : ℕ) (cells : List Cell) (some : 0 < n) (in-range : Every (InRange n) cells) where
   carrier-range : (t : Trigger) (sent : List ℕ) (a : ℕ) → ((m : ℕ) → t ≡ message m → m < n) → ((b : ℕ) → b ∈ sent → b < n) → Carrier t sent a → a < n
   carrier-range (message m) sent a f g k = rw k (f m refl)
   carrier-range (event e) sent a f g k = g a k
 
-  carrier? : (t : Trigger) (sent : List ℕ) (a : ℕ) → Dec (Carrier t sent a)
-  carrier? (message m) sent a = ℕ-discrete a m
-  carrier? (event e) sent a = in? a sent
-
-  enters? : (c : Cell) (s : ℕ) → Dec (Enters c s)
-  enters? c s = pick (Outcome-discrete ℕ-discrete (c .outcome) (go s)) (ℕ-discrete (c .state) s)
-    where
-      pick : Dec (c .outcome ≡ go s) → Dec (c .state ≡ s) → Dec (Enters c s)
-      pick (yes e) (no d) = yes (e, d)
-      pick (yes e) (yes q) = no (λ t. t .1 q)
-      pick (no d) q = no (λ t. d (t .0))
-
-  abbrev Carries : ℕ → ℕ → Type 0
-  Carries a s = Some (λ d. Enters d s × Carrier (d .trigger) (d .sent) a) cells
-
-  carries? : (a s : ℕ) → Dec (Carries a s)
+  carries? : (a s : ℕ) → Dec (Carries cells a s)
   carries? a s = some? (λ d. Enters d s × Carrier (d .trigger) (d .sent) a) (λ d. both? (enters? d s) (carrier? (d .trigger) (d .sent) a)) cells
 
   abbrev StallCell : ℕ → ℕ → Cell → Type 0
-  StallCell a b c = (c .trigger ≡ message b) × (c .outcome ≡ stall) × Carries a (c .state)
+  StallCell a b c = (c .trigger ≡ message b) × (c .outcome ≡ stall) × Carries cells a (c .state)
 
   stall-cell? : (a b : ℕ) (c : Cell) → Dec (StallCell a b c)
   stall-cell? a b c = pick (Trigger-discrete ℕ-discrete (c .trigger) (message b)) (Outcome-discrete ℕ-discrete (c .outcome) stall) (carries? a (c .state))
     where
-      pick : Dec (c .trigger ≡ message b) → Dec (c .outcome ≡ stall) → Dec (Carries a (c .state)) → Dec (StallCell a b c)
+      pick : Dec (c .trigger ≡ message b) → Dec (c .outcome ≡ stall) → Dec (Carries cells a (c .state)) → Dec (StallCell a b c)
       pick (yes x) (yes y) (yes z) = yes (x, y, z)
       pick (yes x) (yes y) (no g) = no (λ t. g (t .2))
       pick (yes x) (no g) z = no (λ t. g (t .1))
@@ -98,7 +129,7 @@ module _ (n : ℕ) (cells : List Cell) (some : 0 < n) (in-range : Every (InRange
     where
       pick : Dec (Some (StallCell a b) cells) → Dec (Stalls cells a b)
       pick (yes t) = let r = some-get (StallCell a b) cells t in yes (r .0 .state, r .2 (λ c. (c .state ≡ r .0 .state) × (c .trigger ≡ message b) × (c .outcome ≡ stall)) (refl, r .1 .0, r .1 .1), r .1 .2)
-      pick (no g) = no (λ t. g (some-map (λ c. (c .state ≡ t .0) × (c .trigger ≡ message b) × (c .outcome ≡ stall)) (StallCell a b) (λ c q. (q .1, q .2, subst (Carries a) (sym (q .0)) (t .2))) cells (t .1)))
+      pick (no g) = no (λ t. g (some-map (λ c. (c .state ≡ t .0) × (c .trigger ≡ message b) × (c .outcome ≡ stall)) (StallCell a b) (λ c q. (q .1, q .2, subst (Carries cells a) (sym (q .0)) (t .2))) cells (t .1)))
 
   abbrev CauseCell : ℕ → ℕ → Cell → Type 0
   CauseCell a b c = ((s : ℕ) × (c .outcome ≡ go s)) × (c .trigger ≡ message a) × (b ∈ c .sent)
