@@ -14,7 +14,8 @@ use Rattle.rules.specs.Plan.{Word, waits, queues, Says}
 use Rattle.rules.specs.Promises.{Accepted}
 use Rattle.rules.specs.Cases.{Given, relations, tables, relationsOf, Listed, Answer, networks, cycle, fit, unfit, mapOf, Worded, Words, Right, Case, AllRight, cases, moreCases}
 use Rattle.rules.proofs.Decided.{waits-within, step-within}
-use Rattle.rules.proofs.Given.{InRange, Every, some-get, some-map, tables-accepted}
+use Rattle.rules.proofs.Entry.{some-get, some-map}
+use Rattle.rules.proofs.Given.{InRange, Every, tables-accepted}
 use Rattle.rules.proofs.Tests.{Tells, and-tells, or-tells, not-tells, eqb-tells, ltb-tells, inb, in-tells, at, rounds}
 use Rattle.rules.proofs.Model.{rowsOf, rows-tell, closure-tell, waitsRows, waits-tell, planb, plan-sound, stepb, step-tell, fitb, fit-sound, shownb, shown-sound, both}
 

@@ -8,14 +8,11 @@ use native.Mathlib.Omega.{arith}
 use lib.ListN.{length, getD}
 use Rattle.rules.specs.Lists.{_∈_, Some}
 use Rattle.rules.specs.Walks.{Rel}
-use Rattle.rules.specs.Rules.{Relations, Trigger, message, event, Outcome, stall, go, Cell, Causes, Enters, Carrier, StallsIn, Carries, Stalls, NoEntry, ofCells, Trigger-discrete, Outcome-discrete}
+use Rattle.rules.specs.Rules.{Relations, Trigger, message, event, Outcome, stall, go, Cell, Causes, Enters, Carrier, StallsIn, Carries, Stalls, ofCells, Trigger-discrete, Outcome-discrete}
 use Rattle.rules.specs.Promises.{Accepted}
 use Rattle.rules.proofs.Pigeon.{in?}
-use Rattle.rules.proofs.Decided.{both?, either?}
-
-some? : (P : Cell → Type 0) → ((c : Cell) → Dec (P c)) → (cells : List Cell) → Dec (Some P cells)
-some? P d [] = no (λ h. h)
-some? P d (c ∷ cells) = either? (d c) (some? P d cells)
+use Rattle.rules.proofs.Decided.{both?}
+use Rattle.rules.proofs.Entry.{some?, some-map, some-get, enters?}
 
 -- the same by index, as the code goes
 pub some-at : (P : Cell → Type 0) (cells : List Cell) (d : Cell) (i : ℕ) → i < length cells → P (getD cells i d) → Some P cells
@@ -41,16 +38,6 @@ some-every P Q X f [] s e = absurd s
 some-every P Q X f (c ∷ cells) (inl p) e = f c p (e .0)
 some-every P Q X f (c ∷ cells) (inr s) e = some-every P Q X f cells s (e .1)
 
-pub some-map : (P Q : Cell → Type 0) → ((c : Cell) → P c → Q c) → (cells : List Cell) → Some P cells → Some Q cells
-some-map P Q f [] s = s
-some-map P Q f (c ∷ cells) (inl p) = inl (f c p)
-some-map P Q f (c ∷ cells) (inr s) = inr (some-map P Q f cells s)
-
-pub some-get : (P : Cell → Type 0) (cells : List Cell) → Some P cells → (c : Cell) × P c × ((Q : Cell → Type 0) → Q c → Some Q cells)
-some-get P [] s = absurd s
-some-get P (c ∷ cells) (inl p) = (c, p, λ Q q. inl q)
-some-get P (c ∷ cells) (inr s) = let r = some-get P cells s in (r .0, r .1, λ Q q. inr (r .2 Q q))
-
 is-go? : (o : Outcome) → Dec ((s : ℕ) × (o ≡ go s))
 is-go? stall = no (λ t. differs (t .0) (t .1))
   where
@@ -61,48 +48,6 @@ is-go? (go s) = yes (s, refl)
 carrier? : (t : Trigger) (sent : List ℕ) (a : ℕ) → Dec (Carrier t sent a)
 carrier? (message m) sent a = ℕ-discrete a m
 carrier? (event e) sent a = in? a sent
-
-enters? : (c : Cell) (s : ℕ) → Dec (Enters c s)
-enters? c s = pick (Outcome-discrete ℕ-discrete (c .outcome) (go s)) (ℕ-discrete (c .state) s)
-  where
-    pick : Dec (c .outcome ≡ go s) → Dec (c .state ≡ s) → Dec (Enters c s)
-    pick (yes e) (no d) = yes (e, d)
-    pick (yes e) (yes q) = no (λ t. t .1 q)
-    pick (no d) q = no (λ t. d (t .0))
-
--- some message is a carrier of the cell
-any-carrier? : (t : Trigger) (sent : List ℕ) → Dec ((a : ℕ) × Carrier t sent a)
-any-carrier? (message m) sent = yes (m, refl)
-any-carrier? (event e) [] = no (λ t. t .1)
-any-carrier? (event e) (b ∷ sent) = yes (b, inl refl)
-
--- some message is a carrier of a cell that enters s
-any-carries? : (cells : List Cell) (s : ℕ) → Dec ((a : ℕ) × Carries cells a s)
-any-carries? cells s = pick (some? Open (λ d. both? (enters? d s) (any-carrier? (d .trigger) (d .sent))) cells)
-  where
-    Open : Cell → Type 0
-    Open d = Enters d s × ((a : ℕ) × Carrier (d .trigger) (d .sent) a)
-
-    pick : Dec (Some Open cells) → Dec ((a : ℕ) × Carries cells a s)
-    pick (yes t) = let r = some-get Open cells t in yes (r .1 .1 .0, r .2 (λ d. Enters d s × Carrier (d .trigger) (d .sent) (r .1 .1 .0)) (r .1 .0, r .1 .1 .1))
-    pick (no g) = no (λ t. g (some-map (λ d. Enters d s × Carrier (d .trigger) (d .sent) (t .0)) Open (λ d q. (q .0, (t .0, q .1))) cells (t .1)))
-
-is-message? : (t : Trigger) → Dec ((b : ℕ) × (t ≡ message b))
-is-message? (message m) = yes (m, refl)
-is-message? (event e) = no (λ t. differs (t .0) (t .1))
-  where
-    differs : (b : ℕ) → event e ≡ message b → ⊥
-    differs b q = let z : _≡_ {A = ℕ} 0 1 = cc in omega arith
-
--- whether refusal 13 is given for the cell
-pub no-entry? : (cells : List Cell) (c : Cell) → Dec (NoEntry cells c)
-no-entry? cells c = pick (is-message? (c .trigger)) (Outcome-discrete ℕ-discrete (c .outcome) stall) (any-carries? cells (c .state))
-  where
-    pick : Dec ((b : ℕ) × (c .trigger ≡ message b)) → Dec (c .outcome ≡ stall) → Dec ((a : ℕ) × Carries cells a (c .state)) → Dec (NoEntry cells c)
-    pick (yes x) (yes y) (no g) = yes (x, y, λ a h. g (a, h))
-    pick (yes x) (yes y) (yes z) = no (λ t. t .2 (z .0) (z .1))
-    pick (yes x) (no g) z = no (λ t. g (t .1))
-    pick (no g) y z = no (λ t. g (t .0))
 
 module _ (n : ℕ) (cells : List Cell) (some : 0 < n) (in-range : Every (InRange n) cells) where
   carrier-range : (t : Trigger) (sent : List ℕ) (a : ℕ) → ((m : ℕ) → t ≡ message m → m < n) → ((b : ℕ) → b ∈ sent → b < n) → Carrier t sent a → a < n

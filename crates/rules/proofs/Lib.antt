@@ -8,6 +8,7 @@ pub mod Cycle
 pub mod Heights
 pub mod Decided
 pub mod Promises
+pub mod Entry
 pub mod Given
 pub mod Local
 pub mod Picked
