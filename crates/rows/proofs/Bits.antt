@@ -1,18 +1,20 @@
 -- Bits of rows, for the code's `|`, `&`, `<<`, `>>`, `trailing_zeros` and `count_ones`.
 use Prim.Native.Nat.{ℕ, zero, suc, _+_, _-_, _*_, _<_, _≤_, _/_, _%_, _^_, min, max}
 use mathlib.Core.Path.{_≡_, refl, sym, subst, ap, _∙_}
-use mathlib.Core.Logic.{_⊎_, inl, inr, ⊎-elim, _↔_}
-use native.Mathlib.Nat.{mod-lt, mul-div-cancel, div-self, div-eq-of-lt, pow-suc, add-comm, div-one, zero-div, le-dest}
+use mathlib.Core.Logic.{_⊎_, inl, inr, ⊎-elim, _↔_, _≢_}
+use native.Mathlib.Nat.{mod-lt, mul-div-cancel, div-self, div-eq-of-lt, pow-suc, add-comm, div-one, zero-div, le-dest, one-mul}
 use native.Mathlib.Decide.{ℕ-discrete, decLe, decLt}
 use native.Mathlib.Numerals.{add-one}
 use native.Mathlib.Omega.{arith}
 use lib.Bits.{bitAnd, bitOr, and-step, or-step, and-shr, or-shr, and-mask, and-le-l}
+use lib.Dec.{lit<}
 use lib.Count.{ones, onesIn, ones-step, trailingZeros, trailing-le, under}
-use lib.Pow.{shr-shr, pow-pos, pow-add, pow-lt, shl-shr}
+use lib.Pow.{shr-shr, pow-pos, pow-add, pow-lt, shl-shr, shl-exact, shr-le}
 use Rattle.rules.specs.Plan.{Counts}
 use Rattle.rules.proofs.Search.{First, None, first-below}
 use Rattle.rules.proofs.Same.{counts-map}
 use Rattle.rows.specs.Rows.{Bit}
+use Rattle.rows.specs.Row.{Lowest, Ones, Without}
 use Rattle.rules.proofs.Cycle.{compare}
 
 pub bit? : (row j : ℕ) → Dec (Bit row j)
@@ -131,6 +133,90 @@ no-bits (suc w) row h f =
     let low : ¬ (row % 2 ≡ 1) = λ e. f 0 (omega arith) (omega (arith, div-one row)) in
     omega (arith, low, no-bits w (row / 2) (omega (arith, pow-suc 2 w)) (λ j k b. f (suc j) (omega arith) (bit-half row j .0 b)))
 
+-- two rows of w bits with the same bits are equal
+pub same-bits : (w a b : ℕ) → a < 2 ^ w → b < 2 ^ w → ((j : ℕ) → j < w → Bit a j ↔ Bit b j) → a ≡ b
+same-bits zero a b h k f = omega arith
+same-bits (suc w) a b h k f =
+    let high : a / 2 ≡ b / 2 =
+    same-bits w (a / 2) (b / 2) (omega (arith, pow-suc 2 w)) (omega (arith, pow-suc 2 w)) (
+    λ j l. (
+      λ x. bit-half b j .1 (f (suc j) (omega arith) .0 (bit-half a j .0 x)),
+      λ x. bit-half a j .1 (f (suc j) (omega arith) .1 (bit-half b j .0 x)),
+    )
+    )
+    in
+    low high (digit a) (digit b)
+  where
+    low : a / 2 ≡ b / 2 → (a % 2 ≡ 0) ⊎ (a % 2 ≡ 1) → (b % 2 ≡ 0) ⊎ (b % 2 ≡ 1) → a ≡ b
+    low e (inl x) (inl y) = omega arith
+    low e (inr x) (inr y) = omega arith
+    low e (inl x) (inr y) = absurd (omega (arith, div-one a, f 0 (omega arith) .1 (omega (arith, div-one b))))
+    low e (inr x) (inl y) = absurd (omega (arith, div-one b, f 0 (omega arith) .0 (omega (arith, div-one a))))
+
+-- a set bit is at most the row
+pub bit-le : (row j : ℕ) → Bit row j → 2 ^ j ≤ row
+bit-le row j b = go (decLe (2 ^ j) row)
+  where
+    go : Dec (2 ^ j ≤ row) → 2 ^ j ≤ row
+    go (yes h) = h
+    go (no g) = absurd (omega (arith, div-eq-of-lt (let h : row < 2 ^ j = omega arith in h)))
+
+-- in a row of w bits they stand below w
+pub bit-below : (w row j : ℕ) → row < 2 ^ w → Bit row j → j < w
+bit-below w row j h b = go (compare j w)
+  where
+    go : (j < w) ⊎ ((j ≡ w) ⊎ (w < j)) → j < w
+    go (inl l) = l
+    go (inr (inl e)) = absurd (omega (arith, bit-le row j b, ap (λ (k : ℕ). 2 ^ k) e))
+    go (inr (inr l)) = absurd (omega (arith, bit-le row j b, pow-lt l))
+
+-- ---- a bit set, a bit cleared
+
+-- `row | 1 << j` at w bits
+pub bit-set : (w row j i : ℕ) → j < w → Bit (bitOr row (1 * 2 ^ j % 2 ^ w)) i ↔ (Bit row i ⊎ (i ≡ j))
+bit-set w row j i h = rw (shl-exact {a = 1} 1 j w (lit< tt) (omega arith), one-mul (2 ^ j)) (
+  λ b. ⊎-elim inl (λ x. inr (bit-pow j i .0 x)) (bit-or row (2 ^ j) i .0 b),
+  λ t. bit-or row (2 ^ j) i .1 (⊎-elim inl (λ e. inr (bit-pow j i .1 e)) t),
+)
+
+clear-low : (row i : ℕ) → row % 2 ≡ 1 → Bit (row - 1) i ↔ (Bit row i × (i ≢ 0))
+clear-low row zero o = (λ b. absurd (omega (arith, div-one (row - 1))), λ t. absurd (t .1 refl))
+clear-low row (suc i) o =
+    let e : (row - 1) / 2 ≡ row / 2 = omega arith in (
+      λ b. (bit-half row i .0 (subst (λ (r : ℕ). Bit r i) e (bit-half (row - 1) i .1 b)), λ z. absurd (omega (arith, z))),
+      λ t. bit-half (row - 1) i .0 (subst (λ (r : ℕ). Bit r i) (sym e) (bit-half row i .1 (t .0))),
+    )
+
+-- a set bit taken away: the others stay
+pub bit-clear : (row j i : ℕ) → Bit row j → Bit (row - 2 ^ j) i ↔ (Bit row i × (i ≢ j))
+bit-clear row zero i b = clear-low row i (omega (arith, div-one row))
+bit-clear row (suc j) zero b =
+    let e : (row - 2 ^ suc j) % 2 ≡ row % 2 = omega (arith, pow-suc 2 j, bit-le row (suc j) b) in (
+      λ x. (omega (arith, div-one (row - 2 ^ suc j), div-one row), λ z. absurd (omega (arith, z))),
+      λ t. omega (arith, div-one (row - 2 ^ suc j), div-one row, t .0),
+    )
+bit-clear row (suc j) (suc i) b =
+    let e : (row - 2 ^ suc j) / 2 ≡ row / 2 - 2 ^ j = omega (arith, pow-suc 2 j) in
+    let ih = bit-clear (row / 2) j i (bit-half row j .1 b) in (
+      λ x. let r = ih .0 (subst (λ (r : ℕ). Bit r i) e (bit-half (row - 2 ^ suc j) i .1 x)) in (bit-half row i .0 (r .0), λ z. r .1 (omega (arith, z))),
+      λ t. bit-half (row - 2 ^ suc j) i .0 (subst (λ (r : ℕ). Bit r i) (sym e) (ih .1 (bit-half row i .1 (t .0), λ z. t .1 (ap suc z)))),
+    )
+
+-- ---- the bits from a place on
+
+pub bit-shr : (row n j : ℕ) → Bit (row / 2 ^ n) j ↔ Bit row (n + j)
+bit-shr row n j = (λ b. omega (arith, shr-shr row n j), λ b. omega (arith, shr-shr row n j))
+
+-- `row >> n` is 0: there are none
+pub none-from : (row n j : ℕ) → row / 2 ^ n ≡ 0 → n ≤ j → ¬ Bit row j
+none-from row n j e h b =
+    let d = le-dest h in
+    bit-zero (d .0) (subst (λ (r : ℕ). Bit r (d .0)) e (bit-shr row n (d .0) .1 (subst (Bit row) (sym (d .1)) b)))
+
+-- there are none: it is 0
+pub from-none : (w row n : ℕ) → row < 2 ^ w → ((j : ℕ) → n ≤ j → ¬ Bit row j) → row / 2 ^ n ≡ 0
+from-none w row n h f = no-bits w (row / 2 ^ n) (omega (arith, shr-le row n)) (λ j l b. f (n + j) (omega arith) (bit-shr row n j .0 b))
+
 -- ---- counting bits
 
 -- the lowest number counted first
@@ -163,6 +249,9 @@ ones-counts (suc w) row h = go (counts-map (Bit (row / 2)) (λ j. Bit row (suc j
         none : ¬ (row % 2 ≡ 1) → ones row ≡ ones (row / 2)
         none d = omega (arith, ones-step row)
 
+pub ones-place : (w row : ℕ) → row < 2 ^ w → Ones w row (ones row)
+ones-place w row h = record { counted = ones-counts w row h }
+
 -- ---- two rows meet: a common bit
 
 pub meet-yes : (w a b : ℕ) → a < 2 ^ w → ¬ (bitAnd a b ≡ 0) → (z : ℕ) × Bit a z × Bit b z
@@ -186,3 +275,17 @@ lowest w row h g = go (decLt (trailingZeros w row) w)
         least : (z : ℕ) → Bit row z → Dec (trailingZeros w row ≤ z) → trailingZeros w row ≤ z
         least z b (yes q) = q
         least z b (no q) = absurd (trailing-none w row z (omega arith) b)
+
+pub lowest-place : (w row : ℕ) → row < 2 ^ w → 0 < row → Lowest w row (trailingZeros w row)
+lowest-place w row h p = let t = lowest w row h (λ e. absurd (omega (arith, e))) in record { below = t .0; bit = t .1; least = t .2 }
+
+-- ---- `row - (1 << j)` at w bits
+
+shifted : (w j : ℕ) → j < w → 1 * 2 ^ j % 2 ^ w ≡ 2 ^ j
+shifted w j h = shl-exact {a = 1} 1 j w (lit< tt) (omega arith) ∙ one-mul (2 ^ j)
+
+pub shifted-le : (w row j : ℕ) → j < w → Bit row j → 1 * 2 ^ j % 2 ^ w ≤ row
+shifted-le w row j h b = omega (arith, shifted w j h, bit-le row j b)
+
+pub clear-place : (w row j : ℕ) → j < w → Bit row j → Without row j (row - 1 * 2 ^ j % 2 ^ w)
+clear-place w row j h b = rw (shifted w j h) (record { bits = λ i. bit-clear row j i b; less = omega (arith, bit-le row j b, pow-pos j) })

@@ -1,3 +1,5 @@
 pub mod Bits
 pub mod Given
+pub mod Filling
 pub mod Warshall
+pub mod Determined

@@ -1,1 +1,5 @@
+pub mod Parts
+pub mod Fields
 pub mod Name
+pub mod Words
+pub mod Written

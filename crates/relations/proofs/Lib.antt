@@ -1,0 +1,5 @@
+pub mod Tables
+pub mod Waiting
+pub mod Determined
+pub mod Plans
+pub mod Calls

@@ -1,0 +1,15 @@
+-- `rows::lowest` meets its contract. Assumes nothing.
+use native.Mathlib.Omega.{arith}
+use lib.Count.{trailing-le}
+use Rattle.rows.proofs.Bits.{lowest-place}
+use Rattle.rows.proofs.lowest.Statement.{statement}
+use Rattle.rows.proofs.lowest.Tie as tie
+
+cast-result : tie.Need-cast-result
+cast-result c = omega (arith, trailing-le 32 (c .args .row))
+
+returns : tie.Need-returns
+returns c = lowest-place 32 (c .args .row) (c .fits .row .fits) (c .pre)
+
+pub lowest-spec : {M : Type 1} → statement M
+lowest-spec = tie.close (tie.spec cast-result returns)

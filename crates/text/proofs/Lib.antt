@@ -1,0 +1,6 @@
+pub mod Parts
+pub mod Lines
+pub mod FieldLaws
+pub mod NameLaws
+pub mod Written
+pub mod Determined
