@@ -1,0 +1,67 @@
+-- What is told of a cell's line leaves one answer.
+use Prim.Native.Nat.{ℕ}
+use mathlib.Core.Path.{_≡_, refl, sym, ap, _∙_}
+use mathlib.Core.Bool.{Bool, true, false}
+use mathlib.Core.List.{List}
+use lib.Dec.{eqb}
+use borrow.Author.Tests.{eqb-true, eqb-false}
+use Rattle.tables.specs.declared.MessageRow.{MessageRow}
+use Rattle.tables.specs.declared.EventRow.{EventRow}
+use Rattle.tables.specs.declared.StateRow.{StateRow}
+use Rattle.tables.specs.declared.Cell.{Cell}
+use Rattle.tables.specs.declared.Tables.{Tables}
+use Rattle.records.proofs.Numbers.{refuses-one}
+use Rattle.cells.specs.declared.CellLine.{CellLine}
+use Rattle.cells.specs.Told.{Declared, CellTold}
+
+module _
+    (messages : List MessageRow) (message-count : ℕ) (events : List EventRow) (event-count : ℕ) (states : List StateRow) (state-count : ℕ)
+    (cells : List Cell) (count : ℕ) where
+  -- the tables with these parts
+  abbrev pub given : Tables
+  given =
+      record {
+        messages = messages;
+        events = events;
+        states = states;
+        cells = cells;
+        «message_count» = message-count;
+        «event_count» = event-count;
+        «state_count» = state-count;
+        «cell_count» = count;
+      }
+
+  pub given-declared : Declared given messages message-count events event-count states state-count
+  given-declared = record { messages-are = refl; messages-many = refl; events-are = refl; events-many = refl; states-are = refl; states-many = refl }
+
+module _ (line : List ℕ)
+    (messages : List MessageRow) (message-count : ℕ) (events : List EventRow) (event-count : ℕ) (states : List StateRow) (state-count : ℕ)
+    (cells : List Cell) (count : ℕ) (r s : CellLine)
+    (p : CellTold line messages message-count events event-count states state-count cells count r)
+    (q : CellTold line messages message-count events event-count states state-count cells count s) where
+  d : Declared (given messages message-count events event-count states state-count cells count) messages message-count events event-count states state-count
+  d = given-declared messages message-count events event-count states state-count cells count
+
+  number : r .number ≡ s .number
+  number =
+      refuses-one (given messages message-count events event-count states state-count cells count) line (r .number) (s .number)
+      (p .told (given messages message-count events event-count states state-count cells count) d refl refl)
+      (q .told (given messages message-count events event-count states state-count cells count) d refl refl)
+
+  cell : r .cell ≡ s .cell
+  cell = go (eqb (r .number) 0) refl
+    where
+      go : (b : Bool) → eqb (r .number) 0 ≡ b → r .cell ≡ s .cell
+      go true e =
+          let z : r .number ≡ 0 = eqb-true (r .number) 0 e in
+          p .cell (given messages message-count events event-count states state-count cells count) d z
+          ∙ sym (q .cell (given messages message-count events event-count states state-count cells count) d (sym number ∙ z))
+      go false e =
+          let z : r .number ≡ 0 → ⊥ = eqb-false (r .number) 0 e in
+          p .cleared z ∙ sym (q .cleared (λ y. z (number ∙ y)))
+
+  pub cell-line-one : r ≡ s
+  cell-line-one = same number cell
+    where
+      same : {m m′ : ℕ} {c c′ : Cell} → m ≡ m′ → c ≡ c′ → _≡_ {A = CellLine} (record { number = m; cell = c }) (record { number = m′; cell = c′ })
+      same a b = cc

@@ -1,0 +1,4 @@
+pub mod Reading
+pub mod Line
+pub mod Text
+pub mod Why

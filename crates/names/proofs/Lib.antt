@@ -1,0 +1,3 @@
+pub mod Look
+pub mod Declared
+pub mod Determined

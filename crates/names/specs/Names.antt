@@ -1,0 +1,81 @@
+-- Names in the tables: which row has one.
+use Prim.Native.Nat.{ℕ, _≤_, _<_}
+use mathlib.Core.Bool.{Bool, true, false, _&&_, cond}
+use mathlib.Core.List.{List}
+use lib.ListN.{getD}
+use lib.Dec.{ltb}
+use Rattle.text.specs.Parts.{sameText, firstIndex}
+use Rattle.text.specs.Name.{nameText}
+use Rattle.tables.specs.declared.Controller.{Controller}
+use Rattle.tables.specs.declared.Controller.the-variants.{Cache, Dir}
+use Rattle.tables.specs.declared.MessageRow.{MessageRow}
+use Rattle.tables.specs.declared.EventRow.{EventRow}
+use Rattle.tables.specs.declared.StateRow.{StateRow}
+use Rattle.tables.specs.declared.Tables.{Tables}
+use Rattle.tables.specs.Tables.{noMessage, noEvent, noState, messagesOf, eventsOf, statesOf}
+use Rattle.names.specs.declared.FoundMessage.{FoundMessage}
+use Rattle.names.specs.declared.FoundMessage.the-variants.{At as MessageAt, Nothing as NoMessage}
+use Rattle.names.specs.declared.FoundEvent.{FoundEvent}
+use Rattle.names.specs.declared.FoundEvent.the-variants.{At as EventAt, Nothing as NoEvent}
+use Rattle.names.specs.declared.FoundState.{FoundState}
+use Rattle.names.specs.declared.FoundState.the-variants.{At as StateAt, Nothing as NoState}
+
+-- The row has this name.
+abbrev pub messageNamed : List ℕ → MessageRow → Bool
+messageNamed x r = sameText (nameText (r .name)) x
+
+abbrev pub eventNamed : List ℕ → EventRow → Bool
+eventNamed x r = sameText (nameText (r .name)) x
+
+abbrev pub sameController : Controller → Controller → Bool
+sameController Cache Cache = true
+sameController Cache Dir = false
+sameController Dir Cache = false
+sameController Dir Dir = true
+
+-- The row is a state of this controller and has this name.
+abbrev pub stateNamed : Controller → List ℕ → StateRow → Bool
+stateNamed c x r = sameController (r .controller) c && sameText (nameText (r .name)) x
+
+-- The number of the message of this name, and the count of messages where it is not declared.
+unfoldable pub messageAt : Tables → List ℕ → ℕ
+messageAt t x = firstIndex (messageNamed x) (messagesOf t)
+
+unfoldable pub eventAt : Tables → List ℕ → ℕ
+eventAt t x = firstIndex (eventNamed x) (eventsOf t)
+
+unfoldable pub stateAt : Tables → Controller → List ℕ → ℕ
+stateAt t c x = firstIndex (stateNamed c x) (statesOf t)
+
+-- The name is declared.
+abbrev pub isMessage : Tables → List ℕ → Bool
+isMessage t x = ltb (messageAt t x) (t .«message_count»)
+
+abbrev pub isEvent : Tables → List ℕ → Bool
+isEvent t x = ltb (eventAt t x) (t .«event_count»)
+
+abbrev pub isState : Tables → Controller → List ℕ → Bool
+isState t c x = ltb (stateAt t c x) (t .«state_count»)
+
+-- What a search that ended at place i of n has found: the first row of that name, or nothing.
+abbrev pub foundMessage : ℕ → ℕ → FoundMessage
+foundMessage i n = cond (ltb i n) (MessageAt (record { 0 = i })) NoMessage
+
+abbrev pub foundEvent : ℕ → ℕ → FoundEvent
+foundEvent i n = cond (ltb i n) (EventAt (record { 0 = i })) NoEvent
+
+abbrev pub foundState : ℕ → ℕ → FoundState
+foundState i n = cond (ltb i n) (StateAt (record { 0 = i })) NoState
+
+-- The names of the rows in use are at most 24 bytes long, and no more rows are in use than there are.
+pub record MessagesFit (messages : List MessageRow) (count : ℕ) : Type 0 where
+  pub few : count ≤ 32
+  pub short : (i : ℕ) → i < count → getD messages i noMessage .name .length ≤ 24
+
+pub record EventsFit (events : List EventRow) (count : ℕ) : Type 0 where
+  pub few : count ≤ 8
+  pub short : (i : ℕ) → i < count → getD events i noEvent .name .length ≤ 24
+
+pub record StatesFit (states : List StateRow) (count : ℕ) : Type 0 where
+  pub few : count ≤ 64
+  pub short : (i : ℕ) → i < count → getD states i noState .name .length ≤ 24

@@ -1,0 +1,6 @@
+pub mod Checks
+pub mod Walk
+pub mod OpeningLaws
+pub mod Determined
+pub mod WholeLine
+pub mod Joined

@@ -1,0 +1,6 @@
+pub mod Bell
+pub mod Steps
+pub mod Passed
+pub mod Kept
+pub mod Going
+pub mod Whole

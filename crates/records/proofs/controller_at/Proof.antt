@@ -1,0 +1,38 @@
+-- `records::controller_at` meets its contract.
+use Rattle.records.proofs.Words.{says-cache, says-dir, says-no-controller}
+use borrow.Author.Needs.{needs}
+use Rattle.records.proofs.controller_at.Statement.{statement}
+use Rattle.records.proofs.controller_at.Tie as tie
+
+slice-aggregate-word-at : tie.Need-slice-aggregate-word-at
+slice-aggregate-word-at c = search needs
+
+word-at-requires : tie.Need-word-at-requires
+word-at-requires c κs = search needs
+
+returns : tie.Need-returns
+returns c = says-cache _ (cc)
+
+slice-aggregate-word-at-2 : tie.Need-slice-aggregate-word-at-2
+slice-aggregate-word-at-2 c = search needs
+
+word-at-requires-2 : tie.Need-word-at-requires-2
+word-at-requires-2 c κs = search needs
+
+returns-2 : tie.Need-returns-2
+returns-2 c = says-dir _ (cc) (cc)
+
+returns-3 : tie.Need-returns-3
+returns-3 c = says-no-controller _ (cc) (cc)
+
+pub controller-at-spec : {M : Type 1} → statement M
+controller-at-spec =
+    tie.close
+    (tie.spec
+    slice-aggregate-word-at
+    word-at-requires
+    returns
+    slice-aggregate-word-at-2
+    word-at-requires-2
+    returns-2
+    returns-3)

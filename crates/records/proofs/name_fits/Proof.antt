@@ -1,0 +1,16 @@
+-- `records::name_fits` meets its contract.
+use borrow.Author.Needs.{needs}
+use Rattle.records.proofs.name_fits.Statement.{statement}
+use Rattle.records.proofs.name_fits.Tie as tie
+
+field-at-requires : tie.Need-field-at-requires
+field-at-requires c κs = search needs
+
+is-name-requires : tie.Need-is-name-requires
+is-name-requires c κs = search needs
+
+returns : tie.Need-returns
+returns c = cc
+
+pub name-fits-spec : {M : Type 1} → statement M
+name-fits-spec = tie.close (tie.spec field-at-requires is-name-requires returns)

@@ -1,0 +1,16 @@
+-- `records::word_at` meets its contract.
+use borrow.Author.Needs.{needs}
+use Rattle.records.proofs.word_at.Statement.{statement}
+use Rattle.records.proofs.word_at.Tie as tie
+
+field-at-requires : tie.Need-field-at-requires
+field-at-requires c κs = search needs
+
+same-requires : tie.Need-same-requires
+same-requires c κs = search needs
+
+returns : tie.Need-returns
+returns c = cc
+
+pub word-at-spec : {M : Type 1} → statement M
+word-at-spec = tie.close (tie.spec field-at-requires same-requires returns)

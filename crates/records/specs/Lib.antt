@@ -1,0 +1,4 @@
+pub mod Line
+pub mod Checks
+pub mod Told
+pub mod Found

@@ -1,0 +1,5 @@
+pub mod Tables
+pub mod Cells
+pub mod Clash
+pub mod Relations
+pub mod Determined

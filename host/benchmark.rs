@@ -1,0 +1,343 @@
+//! How fast the relations call is, beside the second program, and how much
+//! stack it takes.
+//!
+//!   LIBS=relations host/build run benchmark
+//!
+//! Library, fast variant and plain variant get the same inputs in the same
+//! run, in turn, and all are optimised. Each figure is the median of several
+//! rounds; so is a ratio, each of one round, because a busy machine slows both
+//! sides of it. Times are those that the thread had a processor. Under an
+//! emulator they are those of translated code: trust the ratios of x86-64.
+
+mod random;
+mod second;
+mod zeveltoren;
+
+use random::{Random, Tables};
+
+/// What we aim at: this many times the fast variant, and so many bytes.
+const MOST_RATIO: f64 = 1.5;
+const MOST_STACK: usize = 2_048;
+
+const ROUNDS: usize = 15;
+/// How many relations a line of the table is measured with.
+const INPUTS: usize = 32;
+/// A round of one variant takes about this long.
+const ROUND_NANOSECONDS: u128 = 4_000_000;
+
+const COUNTS: [usize; 3] = [8, 16, 32];
+
+// ---------------------------------------------------------------------
+// Inputs
+// ---------------------------------------------------------------------
+
+/// The lines of the table: density and class.
+#[derive(Clone, Copy)]
+struct Kind {
+    name: &'static str,
+    class: u64,
+    quarters: usize,
+    make: fn(&mut Random, usize, usize) -> Tables,
+}
+
+const KINDS: [Kind; 6] = [
+    Kind { name: "sparse, class 3", class: 3, quarters: 3, make: forward },
+    Kind { name: "dense, class 3", class: 3, quarters: 64, make: forward },
+    Kind { name: "chain, class 3", class: 3, quarters: 0, make: chain },
+    Kind { name: "sparse, class 2", class: 2, quarters: 4, make: loose },
+    Kind { name: "dense, class 2", class: 2, quarters: 64, make: loose },
+    Kind { name: "ring, class 2", class: 2, quarters: 0, make: ring },
+];
+
+fn loose(random: &mut Random, count: usize, quarters: usize) -> Tables {
+    random::loose_tables(random, count, quarters, quarters)
+}
+
+/// Causes rise and stalls fall, so that the waits have no cycle.
+fn forward(random: &mut Random, count: usize, quarters: usize) -> Tables {
+    let mut tables = random::empty_tables(count);
+    for low in 0..count {
+        for high in low..count {
+            if low < high && random.chance(2 * quarters, 4 * count) {
+                zeveltoren::set_pair(&mut tables.causes, low, high);
+            }
+            if random.chance(2 * quarters, 4 * count) {
+                zeveltoren::set_pair(&mut tables.stalls, high, low);
+            }
+        }
+    }
+    tables
+}
+
+fn chain(random: &mut Random, count: usize, _: usize) -> Tables {
+    random::chain_tables(random, count)
+}
+
+/// One ring of all messages: the longest cycle.
+fn ring(_: &mut Random, count: usize, _: usize) -> Tables {
+    let mut tables = random::empty_tables(count);
+    for message in 0..count {
+        zeveltoren::set_pair(&mut tables.causes, message, message);
+        zeveltoren::set_pair(&mut tables.stalls, (message + 1) % count, message);
+    }
+    tables
+}
+
+fn class_of(tables: &Tables) -> u64 {
+    let Tables { count, causes, stalls } = tables;
+    let answer = second::relations(*count as u64, causes, stalls, *count);
+    if answer.networks == 0 { 2 } else { 3 }
+}
+
+/// Relations of one kind that are of its class.
+fn inputs(kind: &Kind, count: usize) -> Vec<Tables> {
+    let mut random = Random::new(count as u64);
+    let mut inputs = Vec::new();
+    while inputs.len() < INPUTS {
+        let tables = (kind.make)(&mut random, count, kind.quarters);
+        if class_of(&tables) == kind.class {
+            inputs.push(tables);
+        }
+    }
+    inputs
+}
+
+// ---------------------------------------------------------------------
+// Times
+// ---------------------------------------------------------------------
+
+/// One call, of the library or of a variant. Gives the packed number.
+type Variant = fn(&Tables, &mut [u8]) -> u64;
+
+fn library(tables: &Tables, out: &mut [u8]) -> u64 {
+    zeveltoren::relations_packed(tables.count as u64, &tables.causes, &tables.stalls, out)
+}
+
+fn fast(tables: &Tables, out: &mut [u8]) -> u64 {
+    second::relations_fast(tables.count as u64, &tables.causes, &tables.stalls, out).packed()
+}
+
+fn plain(tables: &Tables, out: &mut [u8]) -> u64 {
+    let answer =
+        second::relations(tables.count as u64, &tables.causes, &tables.stalls, out.len());
+    out[..answer.bytes.len()].copy_from_slice(&answer.bytes);
+    answer.packed()
+}
+
+const VARIANTS: [Variant; 3] = [library, fast, plain];
+
+/// C's time, as Linux has it on machines of 64 bits.
+#[repr(C)]
+struct Timespec {
+    seconds: i64,
+    nanoseconds: i64,
+}
+
+extern "C" {
+    fn clock_gettime(clock: i32, time: *mut Timespec) -> i32;
+}
+
+/// Linux's clock of the time that this thread has run.
+const THREAD_TIME: i32 = 3;
+
+/// Nanoseconds that this thread has run. Waiting for a processor is left out.
+fn thread_time() -> u128 {
+    let mut time = Timespec { seconds: 0, nanoseconds: 0 };
+    let status = unsafe { clock_gettime(THREAD_TIME, &mut time) };
+    assert_eq!(status, 0, "no clock of the thread's time");
+    time.seconds as u128 * 1_000_000_000 + time.nanoseconds as u128
+}
+
+/// Nanoseconds a call, over all inputs `times` times. The sum keeps the
+/// compiler from leaving calls out.
+fn time(variant: Variant, inputs: &[Tables], times: usize) -> (f64, u64) {
+    let mut out = [0; 32];
+    let mut sum = 0_u64;
+    let start = thread_time();
+    for _ in 0..times {
+        for tables in inputs {
+            sum = sum.wrapping_add(variant(tables, &mut out)).wrapping_add(u64::from(out[0]));
+        }
+    }
+    ((thread_time() - start) as f64 / (times * inputs.len()) as f64, sum)
+}
+
+/// How often the inputs are gone through in a round.
+fn times_for(variant: Variant, inputs: &[Tables]) -> usize {
+    let (once, _) = time(variant, inputs, 1);
+    let whole = once as u128 * inputs.len() as u128;
+    (ROUND_NANOSECONDS / whole.max(1)).clamp(1, 100_000) as usize
+}
+
+fn median(mut figures: Vec<f64>) -> f64 {
+    figures.sort_by(|a, b| a.partial_cmp(b).unwrap());
+    figures[figures.len() / 2]
+}
+
+/// A line of the table: times of library, fast and plain variant, and the
+/// library's ratios to the other two.
+fn measured(inputs: &[Tables]) -> [f64; 5] {
+    let times = VARIANTS.map(|variant| times_for(variant, inputs));
+    let mut rounds: Vec<[f64; 5]> = Vec::new();
+    for _ in 0..ROUNDS {
+        let library = time(VARIANTS[0], inputs, times[0]).0;
+        let fast = time(VARIANTS[1], inputs, times[1]).0;
+        let plain = time(VARIANTS[2], inputs, times[2]).0;
+        rounds.push([library, fast, plain, library / fast, library / plain]);
+    }
+    [0, 1, 2, 3, 4].map(|column| median(rounds.iter().map(|round| round[column]).collect()))
+}
+
+/// All three give the same answers, or the times mean nothing.
+fn compare(inputs: &[Tables]) {
+    for tables in inputs {
+        let answers = VARIANTS.map(|variant| {
+            let mut out = [0xee; 32];
+            (variant(tables, &mut out), out)
+        });
+        assert!(answers[0] == answers[1] && answers[1] == answers[2], "{:?}", tables);
+    }
+}
+
+/// Prints the table; gives the highest ratio to the fast variant.
+fn print_times() -> f64 {
+    let mut highest = 0.0_f64;
+    println!("nanoseconds a call, median of {} rounds", ROUNDS);
+    println!(
+        "{:>3} {:<16} {:>9} {:>9} {:>9} {:>8} {:>8}",
+        "n", "relations", "library", "fast", "plain", "to fast", "to plain"
+    );
+    for count in COUNTS {
+        for kind in &KINDS {
+            let inputs = inputs(kind, count);
+            compare(&inputs);
+            let [library, fast, plain, to_fast, to_plain] = measured(&inputs);
+            highest = highest.max(to_fast);
+            println!(
+                "{:>3} {:<16} {:>9.0} {:>9.0} {:>9.0} {:>8.2} {:>8.3}",
+                count, kind.name, library, fast, plain, to_fast, to_plain
+            );
+        }
+    }
+    highest
+}
+
+// ---------------------------------------------------------------------
+// Stack
+// ---------------------------------------------------------------------
+
+#[cfg(target_arch = "x86_64")]
+mod stack {
+    use crate::random::Tables;
+    use std::arch::asm;
+
+    /// The exported call, or another of the same form.
+    pub type Exported =
+        unsafe extern "C" fn(u64, *const u8, usize, *const u8, usize, *mut u8, usize) -> u64;
+
+    extern "C" {
+        pub fn vn_relations(
+            n: u64,
+            causes: *const u8,
+            causes_length: usize,
+            stalls: *const u8,
+            stalls_length: usize,
+            out: *mut u8,
+            out_length: usize,
+        ) -> u64;
+    }
+
+    /// The fast variant, in the form of the exported call.
+    pub unsafe extern "C" fn fast(
+        n: u64,
+        causes: *const u8,
+        causes_length: usize,
+        stalls: *const u8,
+        stalls_length: usize,
+        out: *mut u8,
+        out_length: usize,
+    ) -> u64 {
+        let causes = std::slice::from_raw_parts(causes, causes_length);
+        let stalls = std::slice::from_raw_parts(stalls, stalls_length);
+        let out = std::slice::from_raw_parts_mut(out, out_length);
+        crate::second::relations_fast(n, causes, stalls, out).packed()
+    }
+
+    const PAINT: u64 = 0xa5c3_96e1_78d2_b4f0;
+    const WORDS: usize = 8_192;
+
+    /// How many bytes below the caller's frame a call writes to: it runs on a
+    /// painted stack of its own. Counted are the return address and what the
+    /// call pushes; not the seventh argument, which is the caller's.
+    pub fn used(function: Exported, tables: &Tables) -> usize {
+        let mut painted = vec![PAINT; WORDS];
+        let mut out = [0_u8; 32];
+        let top = painted.as_mut_ptr_range().end as usize & !15;
+        unsafe { call_on(top, function, tables, &mut out) };
+        let untouched = painted.iter().take_while(|word| **word == PAINT).count();
+        let lowest = painted.as_ptr() as usize + 8 * untouched;
+        top - 16 - lowest
+    }
+
+    /// The seventh argument goes on the stack, at an address that 16 divides.
+    unsafe fn call_on(top: usize, function: Exported, tables: &Tables, out: &mut [u8]) -> u64 {
+        let answer: u64;
+        asm!(
+            "mov r12, rsp",
+            "mov rsp, r13",
+            "sub rsp, 8",
+            "push r14",
+            "call r15",
+            "mov rsp, r12",
+            in("rdi") tables.count as u64,
+            in("rsi") tables.causes.as_ptr(),
+            in("rdx") tables.causes.len(),
+            in("rcx") tables.stalls.as_ptr(),
+            in("r8") tables.stalls.len(),
+            in("r9") out.as_mut_ptr(),
+            out("r12") _,
+            in("r13") top,
+            in("r14") out.len(),
+            in("r15") function,
+            out("rax") answer,
+            clobber_abi("C"),
+        );
+        answer
+    }
+}
+
+/// The most stack over all inputs of the table.
+#[cfg(target_arch = "x86_64")]
+fn print_stack() -> usize {
+    let (mut library, mut fast) = (0, 0);
+    for count in COUNTS {
+        for kind in &KINDS {
+            for tables in &inputs(kind, count) {
+                library = library.max(stack::used(stack::vn_relations, tables));
+                fast = fast.max(stack::used(stack::fast, tables));
+            }
+        }
+    }
+    println!("stack of a call: library {} bytes, fast variant {} bytes", library, fast);
+    library
+}
+
+#[cfg(not(target_arch = "x86_64"))]
+fn print_stack() -> usize {
+    println!("stack of a call: measured on x86-64 only");
+    0
+}
+
+fn verdict(kept: bool) -> &'static str {
+    if kept { "kept" } else { "MISSED" }
+}
+
+fn main() {
+    let highest = print_times();
+    let stack = print_stack();
+    println!(
+        "at most {} times the fast variant: {} (highest {:.2})",
+        MOST_RATIO, verdict(highest <= MOST_RATIO), highest
+    );
+    println!("at most {} bytes of stack: {}", MOST_STACK, verdict(stack <= MOST_STACK));
+}

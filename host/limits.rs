@@ -1,0 +1,233 @@
+//! Texts at the limits of the paper, and one past each of them.
+
+#![allow(dead_code)]
+
+use crate::second::{Message, Network, State};
+
+/// What a built protocol has of everything.
+#[derive(Clone, Copy, Debug)]
+pub struct Counts {
+    pub messages: usize,
+    pub events: usize,
+    pub states: usize,
+    pub cells: usize,
+    pub bytes: usize,
+}
+
+/// "Most allowed: 49,152 bytes, 32 messages, 8 events, 64 states over both
+/// controllers, 512 cells."
+pub const MOST: Counts = Counts { messages: 32, events: 8, states: 64, cells: 512, bytes: 49_152 };
+
+/// All limits at once; accepted.
+pub fn full() -> Vec<u8> {
+    protocol_text(&MOST)
+}
+
+/// A text one past a limit, and the refusal that it gets.
+pub struct Past {
+    pub limit: &'static str,
+    pub text: Vec<u8>,
+    pub number: u64,
+    pub line: u64,
+}
+
+/// One more of each, everything else as in `full`. The line is that of the
+/// first record too many: the header, and the records before it.
+pub fn one_more_of_each() -> Vec<Past> {
+    let past = |limit, counts: Counts, number, line| Past {
+        limit,
+        text: protocol_text(&counts),
+        number,
+        line,
+    };
+    vec![
+        past("bytes", Counts { bytes: MOST.bytes + 1, ..MOST }, 1, 0),
+        past("messages", Counts { messages: MOST.messages + 1, ..MOST }, 9, 1 + 33),
+        past("events", Counts { events: MOST.events + 1, ..MOST }, 9, 1 + 32 + 9),
+        past("states", Counts { states: MOST.states + 1, ..MOST }, 9, 1 + 32 + 8 + 65),
+        past("cells", Counts { cells: MOST.cells + 1, ..MOST }, 9, 1 + 32 + 8 + 64 + 513),
+    ]
+}
+
+/// A protocol text with exactly these counts, for counts near the limits.
+/// Bytes are filled up with sent messages, 25 bytes each, and what is left
+/// with longer names of two events that no cell uses.
+pub fn protocol_text(counts: &Counts) -> Vec<u8> {
+    let bare = text_with(counts, 0, 0).len();
+    let extra = counts.bytes - bare;
+    let text = text_with(counts, extra / 25, extra % 25);
+    assert_eq!(text.len(), counts.bytes, "the text has the wanted length");
+    text
+}
+
+/// A name of 24 bytes, the most.
+fn long_name(letter: char, number: usize) -> String {
+    format!("{}{:02}-{}", letter, number, "x".repeat(20))
+}
+
+pub fn message_name(message: Message) -> String {
+    long_name('M', message.0)
+}
+
+/// The two last events take the padding.
+fn event_name(counts: &Counts, number: usize, padding: usize) -> String {
+    let first_half = padding / 2;
+    let long = match counts.events - number {
+        2 => first_half,
+        1 => padding - first_half,
+        _ => 0,
+    };
+    format!("e{}{}", number, "y".repeat(long))
+}
+
+/// The states of the two controllers stand in turn; the first of each is
+/// stable, the others are transient.
+fn controller_of(state: State) -> &'static str {
+    if state.0 % 2 == 0 { "cache" } else { "dir" }
+}
+
+fn stable_beside(state: State) -> State {
+    State(state.0 % 2)
+}
+
+/// The first four fields of a cell.
+fn place_of(state: State, trigger: &str) -> String {
+    format!("cell\t{}\ts{}\t{}", controller_of(state), state.0, trigger)
+}
+
+fn text_with(counts: &Counts, extra_sent: usize, padding: usize) -> Vec<u8> {
+    let mut text = String::from("vn-protocol\t1\n");
+    for message in (0..counts.messages).map(Message) {
+        text.push_str(&format!("message\t{}\tdata\n", message_name(message)));
+    }
+    for number in 0..counts.events {
+        text.push_str(&format!("event\t{}\n", event_name(counts, number, padding)));
+    }
+    for state in (0..counts.states).map(State) {
+        let kind = if state == stable_beside(state) { "stable" } else { "transient" };
+        text.push_str(&format!("state\t{}\ts{}\t{}\n", controller_of(state), state.0, kind));
+    }
+    let mut extra_left = extra_sent;
+    for number in 0..counts.cells {
+        let line = if number < counts.states {
+            entering_cell(counts, State(number), &mut extra_left)
+        } else {
+            later_cell(counts, number - counts.states, &mut extra_left)
+        };
+        text.push_str(&line);
+    }
+    assert_eq!(extra_left, 0, "there is room for the sent messages");
+    text.into_bytes()
+}
+
+/// One cell that goes to each state: by an event that sends a message for the
+/// first six of `cache`, by a message for the others.
+fn entering_cell(counts: &Counts, state: State, extra_left: &mut usize) -> String {
+    let from = stable_beside(state);
+    let message = message_name(Message(state.0 % counts.messages));
+    let by_event = controller_of(state) == "cache" && state.0 < 12;
+    let trigger = if by_event { event_name(counts, state.0 / 2, 0) } else { message.clone() };
+    let sent = if by_event { format!("\t{}", message) } else { String::new() };
+    let more = sent_list(counts, state.0, 7, extra_left);
+    format!("{}\tgo\ts{}{}{}\n", place_of(from, &trigger), state.0, sent, more)
+}
+
+/// The other cells leave their transient state or, every third, stall there.
+fn later_cell(counts: &Counts, number: usize, extra_left: &mut usize) -> String {
+    let transients = counts.states - 2;
+    let state = State(2 + number % transients);
+    let message = Message((number / transients + state.0) % counts.messages);
+    let place = place_of(state, &message_name(message));
+    if number % 3 == 0 {
+        return format!("{}\tstall\n", place);
+    }
+    let more = sent_list(counts, number, 8, extra_left);
+    format!("{}\tgo\ts{}{}\n", place, stable_beside(state).0, more)
+}
+
+/// Up to `most` more sent messages, as long as some are left to place.
+fn sent_list(counts: &Counts, cell: usize, most: usize, extra_left: &mut usize) -> String {
+    let mut list = String::new();
+    for place in 0..most {
+        if *extra_left == 0 {
+            break;
+        }
+        *extra_left -= 1;
+        let message = Message((cell * 7 + place) % counts.messages);
+        list.push_str(&format!("\t{}", message_name(message)));
+    }
+    list
+}
+
+// ---------------------------------------------------------------------
+// Long answers
+// ---------------------------------------------------------------------
+
+/// A protocol with exactly the given waits: a pair (b, c) says that b waits
+/// for c. All names are long. Each message causes itself alone. For each c
+/// there is a state that c enters; whoever waits for c stalls there.
+pub fn protocol_with_waits(count: usize, waits: &[(Message, Message)]) -> Vec<u8> {
+    let mut text = String::from("vn-protocol\t1\n");
+    for message in (0..count).map(Message) {
+        text.push_str(&format!("message\t{}\treq\n", message_name(message)));
+    }
+    let base = long_name('B', 0);
+    text.push_str(&format!("state\tcache\t{}\tstable\n", base));
+    for message in (0..count).map(Message) {
+        text.push_str(&format!("state\tcache\t{}\ttransient\n", state_after(message)));
+    }
+    for message in (0..count).map(Message) {
+        let place = format!("cell\tcache\t{}\t{}", base, message_name(message));
+        let (next, sent) = (state_after(message), message_name(message));
+        text.push_str(&format!("{}\tgo\t{}\t{}\n", place, next, sent));
+    }
+    for (b, c) in waits {
+        let (state, trigger) = (state_after(*c), message_name(*b));
+        text.push_str(&format!("cell\tcache\t{}\t{}\tstall\n", state, trigger));
+    }
+    text.into_bytes()
+}
+
+/// The state that a message enters in `protocol_with_waits`.
+fn state_after(message: Message) -> String {
+    long_name('S', message.0)
+}
+
+pub fn mapping_with(mapping: &[Network]) -> Vec<u8> {
+    let mut text = String::from("vn-mapping\t1\n");
+    for (place, network) in mapping.iter().enumerate() {
+        let name = message_name(Message(place));
+        text.push_str(&format!("map\t{}\t{}\n", name, network.0));
+    }
+    text.into_bytes()
+}
+
+/// Class 3 with 32 networks and long names: message i waits for i + 1.
+pub fn longest_plan() -> Vec<u8> {
+    let waits: Vec<(Message, Message)> = (0..31).map(|i| (Message(i), Message(i + 1))).collect();
+    protocol_with_waits(32, &waits)
+}
+
+/// Class 2 with a shown cycle of all 32 messages.
+pub fn longest_cycle() -> Vec<u8> {
+    let waits: Vec<(Message, Message)> =
+        (0..32).map(|i| (Message(i), Message((i + 1) % 32))).collect();
+    protocol_with_waits(32, &waits)
+}
+
+/// A protocol and a mapping, unfit with 32 steps, waits and queues in turn:
+/// i waits for 16 + i, which shares a network with i + 1 and queues behind it.
+pub fn longest_unfit() -> (Vec<u8>, Vec<u8>) {
+    let waits: Vec<(Message, Message)> = (0..16).map(|i| (Message(i), Message(16 + i))).collect();
+    let mut mapping: Vec<Network> = (0..16).map(Network).collect();
+    mapping.extend((0..16).map(|i| Network((i + 1) % 16)));
+    (protocol_with_waits(32, &waits), mapping_with(&mapping))
+}
+
+/// A text of exactly this many bytes that starts as a mapping text. Only its
+/// length is of interest: no accepted mapping is so long.
+pub fn long_mapping(bytes: usize) -> Vec<u8> {
+    let mut text = b"vn-mapping\t1\n".to_vec();
+    text.resize(bytes, 10);
+    text
+}

@@ -1,0 +1,693 @@
+//! Random input, the same for the same seed.
+//!
+//! The generator is xorshift64*: a state of 64 bits, never 0, goes through
+//!   x ^= x >> 12;  x ^= x << 25;  x ^= x >> 27;
+//! and gives x * 0x2545F4914F6CDD1D, of which the high bits are used. A seed
+//! is multiplied by 0x9E3779B97F4A7C15 before, so that small seeds in a row
+//! start far apart; seed 0 starts as that number itself. A test prints the
+//! seed of what it did not like.
+
+#![allow(dead_code)]
+
+use crate::second::{Message, Network, State};
+use std::collections::{BTreeMap, BTreeSet};
+
+pub struct Random {
+    state: u64,
+}
+
+impl Random {
+    pub fn new(seed: u64) -> Random {
+        let spread = seed.wrapping_mul(0x9E37_79B9_7F4A_7C15);
+        let state = if spread == 0 { 0x9E37_79B9_7F4A_7C15 } else { spread };
+        let mut random = Random { state };
+        for _ in 0..4 {
+            random.next();
+        }
+        random
+    }
+
+    pub fn next(&mut self) -> u64 {
+        self.state ^= self.state >> 12;
+        self.state ^= self.state << 25;
+        self.state ^= self.state >> 27;
+        self.state.wrapping_mul(0x2545_F491_4F6C_DD1D)
+    }
+
+    /// A number from 0 to `bound` - 1.
+    pub fn below(&mut self, bound: usize) -> usize {
+        assert!(bound > 0);
+        ((self.next() >> 33) % bound as u64) as usize
+    }
+
+    /// A number from `low` to `high`, both included.
+    pub fn between(&mut self, low: usize, high: usize) -> usize {
+        low + self.below(high - low + 1)
+    }
+
+    /// True `times` out of `out_of` times.
+    pub fn chance(&mut self, times: usize, out_of: usize) -> bool {
+        self.below(out_of) < times
+    }
+
+    pub fn pick<'a, T>(&mut self, list: &'a [T]) -> &'a T {
+        &list[self.below(list.len())]
+    }
+
+    pub fn shuffle<T>(&mut self, list: &mut [T]) {
+        for last in (1..list.len()).rev() {
+            let other = self.below(last + 1);
+            list.swap(last, other);
+        }
+    }
+}
+
+// ---------------------------------------------------------------------
+// Bare relations
+// ---------------------------------------------------------------------
+
+/// Densities, as pairs in a row in quarters: from none, over one pair in
+/// every fourth row, to all pairs.
+pub const DENSITIES: [usize; 11] = [0, 1, 2, 3, 4, 6, 8, 14, 30, 64, 128];
+
+/// The two tables of the relations call: 4 bytes a message.
+#[derive(Clone, Debug)]
+pub struct Tables {
+    pub count: usize,
+    pub causes: Vec<u8>,
+    pub stalls: Vec<u8>,
+}
+
+/// "Row i is 4 bytes, lowest byte first; bit j says that i causes (stalls) j."
+pub fn set_pair(table: &mut [u8], from: Message, to: Message) {
+    table[4 * from.0 + to.0 / 8] |= 1 << (to.0 % 8);
+}
+
+fn random_message(random: &mut Random, count: usize) -> Message {
+    Message(random.below(count))
+}
+
+pub fn empty_tables(count: usize) -> Tables {
+    Tables { count, causes: vec![0; 4 * count], stalls: vec![0; 4 * count] }
+}
+
+fn random_table(random: &mut Random, count: usize, quarters: usize) -> Vec<u8> {
+    let mut table = vec![0; 4 * count];
+    for from in (0..count).map(Message) {
+        for to in (0..count).map(Message) {
+            if random.chance(quarters, 4 * count) {
+                set_pair(&mut table, from, to);
+            }
+        }
+    }
+    table
+}
+
+/// Both tables without any plan, at the given densities.
+pub fn loose_tables(
+    random: &mut Random,
+    count: usize,
+    causes_quarters: usize,
+    stalls_quarters: usize,
+) -> Tables {
+    let causes = random_table(random, count, causes_quarters);
+    let stalls = random_table(random, count, stalls_quarters);
+    Tables { count, causes, stalls }
+}
+
+fn random_order(random: &mut Random, count: usize) -> Vec<Message> {
+    let mut order: Vec<Message> = (0..count).map(Message).collect();
+    random.shuffle(&mut order);
+    order
+}
+
+/// Causes go forward in some order and stalls go back or stay. This is always
+/// class 3, often with many networks.
+pub fn layered_tables(random: &mut Random, count: usize) -> Tables {
+    let order = random_order(random, count);
+    let mut tables = empty_tables(count);
+    let causes_quarters = *random.pick(&DENSITIES);
+    let stalls_quarters = *random.pick(&DENSITIES);
+    for early in 0..count {
+        for late in early..count {
+            if early != late && random.chance(causes_quarters, 4 * count) {
+                set_pair(&mut tables.causes, order[early], order[late]);
+            }
+            if random.chance(stalls_quarters, 4 * count) {
+                set_pair(&mut tables.stalls, order[late], order[early]);
+            }
+        }
+    }
+    tables
+}
+
+/// A chain in some order, each stalling itself: as many networks as messages.
+pub fn chain_tables(random: &mut Random, count: usize) -> Tables {
+    let order = random_order(random, count);
+    let mut tables = empty_tables(count);
+    for place in 0..count {
+        if place + 1 < count {
+            set_pair(&mut tables.causes, order[place], order[place + 1]);
+        }
+        set_pair(&mut tables.stalls, order[place], order[place]);
+    }
+    tables
+}
+
+/// One or several rings of waits, and some more pairs: long shown cycles,
+/// often several of one length. Every message causes itself alone.
+pub fn ring_tables(random: &mut Random, count: usize) -> Tables {
+    let mut tables = empty_tables(count);
+    for message in (0..count).map(Message) {
+        set_pair(&mut tables.causes, message, message);
+    }
+    for _ in 0..random.between(1, 3) {
+        let order = random_order(random, count);
+        let length = random.between(1, count);
+        for place in 0..length {
+            let next = (place + 1) % length;
+            set_pair(&mut tables.stalls, order[next], order[place]);
+        }
+    }
+    tables
+}
+
+fn add_pairs(random: &mut Random, tables: &mut Tables, most: usize) {
+    for _ in 0..random.below(most + 1) {
+        let from = random_message(random, tables.count);
+        let to = random_message(random, tables.count);
+        let table = if random.chance(1, 2) { &mut tables.causes } else { &mut tables.stalls };
+        set_pair(table, from, to);
+    }
+}
+
+/// Tables of some kind and density, right in form.
+pub fn tables(random: &mut Random, count: usize) -> Tables {
+    match random.below(8) {
+        0..=3 => {
+            let causes_quarters = *random.pick(&DENSITIES);
+            let stalls_quarters = *random.pick(&DENSITIES);
+            loose_tables(random, count, causes_quarters, stalls_quarters)
+        }
+        4 | 5 => {
+            let mut tables = layered_tables(random, count);
+            add_pairs(random, &mut tables, 2);
+            tables
+        }
+        6 => {
+            let mut tables = chain_tables(random, count);
+            add_pairs(random, &mut tables, 3);
+            tables
+        }
+        _ => {
+            let mut tables = ring_tables(random, count);
+            add_pairs(random, &mut tables, 2);
+            tables
+        }
+    }
+}
+
+/// A call of the relations call, sometimes wrong: count, table length, stray
+/// bit or room.
+#[derive(Clone, Debug)]
+pub struct Call {
+    pub n: u64,
+    pub causes: Vec<u8>,
+    pub stalls: Vec<u8>,
+    pub room: usize,
+}
+
+pub fn call(random: &mut Random, count: usize) -> Call {
+    let tables = tables(random, count);
+    let room = count + random.below(4);
+    let Tables { causes, stalls, .. } = tables;
+    let mut call = Call { n: count as u64, causes, stalls, room };
+    while random.chance(1, 6) {
+        damage_call(random, &mut call);
+    }
+    call
+}
+
+fn damage_call(random: &mut Random, call: &mut Call) {
+    let pick_causes = random.chance(1, 2);
+    let table = if pick_causes { &mut call.causes } else { &mut call.stalls };
+    match random.below(8) {
+        0 => call.n = *random.pick(&[0, 1, 31, 32, 33, 64, 255, 256, 257, u64::MAX]),
+        1 => call.n = call.n.wrapping_add(1),
+        2 => call.n = call.n.wrapping_sub(1),
+        3 => table.push(0),
+        4 => {
+            table.pop();
+        }
+        5 if !table.is_empty() => {
+            let place = random.below(table.len());
+            table[place] |= 1 << random.below(8);
+        }
+        6 => call.room = call.room.saturating_sub(random.between(1, 5)),
+        _ => call.room = random.below(40),
+    }
+}
+
+// ---------------------------------------------------------------------
+// Protocol texts
+// ---------------------------------------------------------------------
+
+const NAME_BYTES: &[u8] = b"abcdefghijklmnopqrstuvwxyzABCDEFGHIJKLMNOPQRSTUVWXYZ0123456789-+_.";
+
+fn random_name(random: &mut Random) -> String {
+    let length = match random.below(20) {
+        0 => 24,
+        1 => random.between(1, 24),
+        _ => random.between(1, 4),
+    };
+    (0..length).map(|_| *random.pick(NAME_BYTES) as char).collect()
+}
+
+/// Names that differ from each other and from those in `taken`.
+fn fresh_names(random: &mut Random, count: usize, taken: &mut BTreeSet<String>) -> Vec<String> {
+    let mut names = Vec::new();
+    while names.len() < count {
+        let name = random_name(random);
+        if taken.insert(name.clone()) {
+            names.push(name);
+        }
+    }
+    names
+}
+
+struct DraftState {
+    controller: &'static str,
+    name: String,
+    transient: bool,
+}
+
+/// A protocol on its way.
+struct Draft {
+    messages: Vec<String>,
+    events: Vec<String>,
+    states: Vec<DraftState>,
+    cells: Vec<String>,
+    /// Is there a stall at this state and trigger (else only `go`)?
+    places: BTreeMap<(State, String), bool>,
+    /// The lowest carrier of the cells that enter a state.
+    lowest_carrier: BTreeMap<State, Message>,
+    /// Messages send only later ones and are stalled only by later ones or
+    /// themselves: then the waits have no cycle.
+    layered: bool,
+}
+
+impl Draft {
+    fn state(&self, state: State) -> &DraftState {
+        &self.states[state.0]
+    }
+
+    fn states_of(&self, controller: &str) -> Vec<State> {
+        (0..self.states.len())
+            .map(State)
+            .filter(|state| self.state(*state).controller == controller)
+            .collect()
+    }
+}
+
+fn draft_names(random: &mut Random) -> Draft {
+    let many = random.chance(1, 10);
+    let mut taken = BTreeSet::new();
+    let most_messages = if many { 32 } else { 8 };
+    let message_count = random.between(1, most_messages);
+    let event_count = random.below(if many { 9 } else { 4 });
+    let messages = fresh_names(random, message_count, &mut taken);
+    let events = fresh_names(random, event_count, &mut taken);
+    let mut states = Vec::new();
+    let (mut cache_names, mut dir_names) = (BTreeSet::new(), BTreeSet::new());
+    for _ in 0..random.between(1, if many { 64 } else { 10 }) {
+        let on_cache = random.chance(1, 2);
+        let taken = if on_cache { &mut cache_names } else { &mut dir_names };
+        let name = fresh_names(random, 1, taken).remove(0);
+        let controller = if on_cache { "cache" } else { "dir" };
+        states.push(DraftState { controller, name, transient: random.chance(2, 3) });
+    }
+    Draft {
+        messages,
+        events,
+        states,
+        cells: Vec::new(),
+        places: BTreeMap::new(),
+        lowest_carrier: BTreeMap::new(),
+        layered: random.chance(1, 2),
+    }
+}
+
+/// A trigger for the state: its name, and its number if it is a message.
+fn draft_trigger(random: &mut Random, draft: &Draft, state: State) -> (String, Option<Message>) {
+    let on_cache = draft.state(state).controller == "cache";
+    if on_cache && !draft.events.is_empty() && random.chance(1, 3) {
+        return (random.pick(&draft.events).clone(), None);
+    }
+    let message = random_message(random, draft.messages.len());
+    (draft.messages[message.0].clone(), Some(message))
+}
+
+fn draft_sent(random: &mut Random, draft: &Draft, trigger: Option<Message>) -> Vec<Message> {
+    let count = draft.messages.len();
+    let first = match trigger {
+        Some(message) if draft.layered => message.0 + 1,
+        _ => 0,
+    };
+    if first == count {
+        return Vec::new();
+    }
+    let sent_count = if random.chance(1, 30) { 8 } else { random.below(3) };
+    (0..sent_count).map(|_| Message(random.between(first, count - 1))).collect()
+}
+
+fn draft_go(random: &mut Random, draft: &mut Draft) {
+    let state = State(random.below(draft.states.len()));
+    let controller = draft.state(state).controller;
+    let next = *random.pick(&draft.states_of(controller));
+    let (trigger, message) = draft_trigger(random, draft, state);
+    let place = (state, trigger.clone());
+    if draft.places.get(&place) == Some(&true) && !random.chance(1, 200) {
+        return;
+    }
+    let sent = draft_sent(random, draft, message);
+    let lowest = message.or_else(|| sent.iter().min().copied());
+    if let (true, Some(carrier)) = (next != state, lowest) {
+        let known = draft.lowest_carrier.entry(next).or_insert(carrier);
+        *known = carrier.min(*known);
+    }
+    let mut line = format!("cell\t{}\t{}\t{}", controller, draft.state(state).name, trigger);
+    line.push_str(&format!("\tgo\t{}", draft.state(next).name));
+    for message in sent {
+        line.push_str(&format!("\t{}", draft.messages[message.0]));
+    }
+    draft.places.entry(place).or_insert(false);
+    draft.cells.push(line);
+}
+
+/// A stall where one is right; rarely anywhere.
+fn draft_stall(random: &mut Random, draft: &mut Draft) {
+    let state = State(random.below(draft.states.len()));
+    let (trigger, message) = draft_trigger(random, draft, state);
+    let place = (state, trigger.clone());
+    let carried = match (message, draft.lowest_carrier.get(&state)) {
+        (None, _) => true,
+        (Some(_), None) => false,
+        (Some(message), Some(carrier)) => !draft.layered || message <= *carrier,
+    };
+    let right = draft.state(state).transient && !draft.places.contains_key(&place) && carried;
+    if !right && !random.chance(1, 200) {
+        return;
+    }
+    let DraftState { controller, name, .. } = draft.state(state);
+    let line = format!("cell\t{}\t{}\t{}\tstall", controller, name, trigger);
+    draft.cells.push(line);
+    draft.places.insert(place, true);
+}
+
+/// A protocol text that is accepted most of the time.
+pub fn protocol_text(random: &mut Random) -> Vec<u8> {
+    let mut draft = draft_names(random);
+    let most_goes = if random.chance(1, 20) { 300 } else { 30 };
+    let goes = random.below(most_goes);
+    let stalls = random.below(60);
+    for _ in 0..goes {
+        draft_go(random, &mut draft);
+    }
+    for _ in 0..stalls {
+        draft_stall(random, &mut draft);
+    }
+    random.shuffle(&mut draft.cells);
+    let mut text = String::from("vn-protocol\t1\n");
+    for name in &draft.messages {
+        let message_type = *random.pick(&["req", "fwd", "data", "ctl"]);
+        text.push_str(&format!("message\t{}\t{}\n", name, message_type));
+    }
+    for name in &draft.events {
+        text.push_str(&format!("event\t{}\n", name));
+    }
+    for state in &draft.states {
+        let kind = if state.transient { "transient" } else { "stable" };
+        text.push_str(&format!("state\t{}\t{}\t{}\n", state.controller, state.name, kind));
+    }
+    for cell in &draft.cells {
+        text.push_str(&format!("{}\n", cell));
+    }
+    text.into_bytes()
+}
+
+// ---------------------------------------------------------------------
+// Mapping texts
+// ---------------------------------------------------------------------
+
+/// The second field of each line that starts with `message`.
+pub fn message_names(protocol_text: &[u8]) -> Vec<Vec<u8>> {
+    split_all(protocol_text)
+        .into_iter()
+        .filter(|fields| fields.len() >= 2 && fields[0] == b"message")
+        .map(|mut fields| fields.remove(1))
+        .collect()
+}
+
+/// A right mapping text for a protocol, with few or many networks.
+pub fn mapping_text(random: &mut Random, protocol_text: &[u8]) -> Vec<u8> {
+    let networks = *random.pick(&[1, 2, 3, 4, 6, 12, 32]);
+    let mut text = b"vn-mapping\t1\n".to_vec();
+    for name in message_names(protocol_text) {
+        text.extend(b"map\t");
+        text.extend(name);
+        text.extend(format!("\t{}\n", random.below(networks)).as_bytes());
+    }
+    text
+}
+
+/// A network for each of `count` messages.
+pub fn mapping(random: &mut Random, count: usize) -> Vec<Network> {
+    let networks = random.between(1, count.max(1));
+    (0..count).map(|_| Network(random.below(networks))).collect()
+}
+
+// ---------------------------------------------------------------------
+// Damage
+// ---------------------------------------------------------------------
+
+/// The text as lines of fields. A last line without its end is a line too.
+fn split_all(text: &[u8]) -> Vec<Vec<Vec<u8>>> {
+    let mut lines: Vec<&[u8]> = text.split(|byte| *byte == 10).collect();
+    if lines.last().map_or(false, |line| line.is_empty()) {
+        lines.pop();
+    }
+    lines
+        .iter()
+        .map(|line| line.split(|byte| *byte == 9).map(|field| field.to_vec()).collect())
+        .collect()
+}
+
+fn join_all(lines: &[Vec<Vec<u8>>]) -> Vec<u8> {
+    let mut text = Vec::new();
+    for line in lines {
+        text.extend(line.join(&9u8));
+        text.push(10);
+    }
+    text
+}
+
+/// One to three changes: bytes, fields and lines changed, dropped, doubled,
+/// swapped or cut; rarely the text is grown past a limit.
+pub fn damage(random: &mut Random, text: &[u8]) -> Vec<u8> {
+    let mut damaged = text.to_vec();
+    for _ in 0..random.between(1, 3) {
+        damaged = match random.below(16) {
+            0..=4 => damage_bytes(random, damaged),
+            5..=9 => damage_fields(random, &damaged),
+            10..=13 => damage_lines(random, &damaged),
+            14 => cut(random, damaged),
+            _ => grow(random, &damaged),
+        };
+    }
+    damaged
+}
+
+fn random_byte(random: &mut Random) -> u8 {
+    match random.below(4) {
+        0 => *random.pick(b"\t\n\r \0"),
+        1 => *random.pick(NAME_BYTES),
+        2 => *random.pick(b"0123456789"),
+        _ => random.below(256) as u8,
+    }
+}
+
+fn damage_bytes(random: &mut Random, mut text: Vec<u8>) -> Vec<u8> {
+    if text.is_empty() {
+        return vec![random_byte(random)];
+    }
+    let place = random.below(text.len());
+    match random.below(4) {
+        0 => text[place] = random_byte(random),
+        1 => {
+            text.remove(place);
+        }
+        2 => text.insert(place, random_byte(random)),
+        _ => {
+            let other = random.below(text.len());
+            text.swap(place, other);
+        }
+    }
+    text
+}
+
+fn random_field(random: &mut Random, lines: &[Vec<Vec<u8>>]) -> Vec<u8> {
+    let line = random.pick(lines);
+    random.pick(line).clone()
+}
+
+const WORDS: [&str; 21] = [
+    "message", "event", "state", "cell", "map", "cache", "dir", "stall", "go", "stable",
+    "transient", "req", "ctl", "", "0", "00", "01", "31", "32", "+1", "vn-protocol",
+];
+
+fn damage_fields(random: &mut Random, text: &[u8]) -> Vec<u8> {
+    let mut lines = split_all(text);
+    if lines.is_empty() {
+        return text.to_vec();
+    }
+    let line = random.below(lines.len());
+    let place = random.below(lines[line].len());
+    match random.below(9) {
+        0 => {
+            lines[line].remove(place);
+        }
+        1 => {
+            let field = lines[line][place].clone();
+            lines[line].insert(place, field);
+        }
+        2 => {
+            let other = random.below(lines[line].len());
+            lines[line].swap(place, other);
+        }
+        3 => {
+            let field = random_field(random, &lines);
+            lines[line].push(field);
+        }
+        4 => lines[line][place] = random_field(random, &lines),
+        5 => lines[line][place] = random.pick(&WORDS).as_bytes().to_vec(),
+        _ => lines[line][place] = field_of_a_like_line(random, &lines, line, place),
+    }
+    join_all(&lines)
+}
+
+/// The field at the same place of some line with the same first word: the
+/// shape stays right, so later checks are reached.
+fn field_of_a_like_line(
+    random: &mut Random,
+    lines: &[Vec<Vec<u8>>],
+    line: usize,
+    place: usize,
+) -> Vec<u8> {
+    let like: Vec<&Vec<Vec<u8>>> = lines
+        .iter()
+        .filter(|other| other[0] == lines[line][0] && other.len() > place)
+        .collect();
+    random.pick(&like)[place].clone()
+}
+
+fn damage_lines(random: &mut Random, text: &[u8]) -> Vec<u8> {
+    let mut lines = split_all(text);
+    if lines.is_empty() {
+        return text.to_vec();
+    }
+    let line = random.below(lines.len());
+    let other = random.below(lines.len());
+    match random.below(6) {
+        0 => {
+            lines.remove(line);
+        }
+        1 => {
+            let double = lines[line].clone();
+            lines.insert(line, double);
+        }
+        2 => lines.swap(line, other),
+        3 => {
+            let moved = lines.remove(line);
+            lines.insert(other, moved);
+        }
+        4 => drop_sections(random, &mut lines),
+        _ => lines.insert(line, vec![Vec::new()]),
+    }
+    join_all(&lines)
+}
+
+/// Drops all lines of one section, and with the messages often all cells.
+fn drop_sections(random: &mut Random, lines: &mut Vec<Vec<Vec<u8>>>) {
+    let record: &[u8] = *random.pick(&[b"message".as_slice(), b"event", b"state", b"cell"]);
+    let cells_too = random.chance(2, 3);
+    lines.retain(|fields| fields[0] != record && !(cells_too && fields[0] == b"cell"));
+}
+
+fn cut(random: &mut Random, mut text: Vec<u8>) -> Vec<u8> {
+    match random.below(3) {
+        0 => {
+            text.pop();
+        }
+        1 => text.truncate(random.below(text.len() + 1)),
+        _ => {
+            let line = random.below(split_all(&text).len() + 1);
+            text = join_all(&split_all(&text)[..line]);
+        }
+    }
+    text
+}
+
+/// Past a limit: names, messages, events, states, cells, sent messages,
+/// networks, bytes.
+fn grow(random: &mut Random, text: &[u8]) -> Vec<u8> {
+    let mut lines = split_all(text);
+    if lines.is_empty() {
+        return text.to_vec();
+    }
+    let line = random.below(lines.len());
+    let place = random.below(lines[line].len());
+    match random.below(8) {
+        0 => lines[line][place] = vec![b'n'; random.between(24, 25)],
+        1 => repeat_record(random, &mut lines, b"message", 34),
+        2 => repeat_record(random, &mut lines, b"event", 10),
+        3 => repeat_record(random, &mut lines, b"state", 66),
+        4 => repeat_record(random, &mut lines, b"cell", 514),
+        5 => {
+            let field = lines[line][place].clone();
+            lines[line].extend(vec![field; random.between(6, 9)]);
+        }
+        6 => lines[line][place] = random.between(30, 33).to_string().into_bytes(),
+        _ => return lengthen(random, text),
+    }
+    join_all(&lines)
+}
+
+/// Copies of the first record of a section, with fresh names, up to `most` of
+/// them or a few less. Cells are copied as they are.
+fn repeat_record(random: &mut Random, lines: &mut Vec<Vec<Vec<u8>>>, record: &[u8], most: usize) {
+    let first = match lines.iter().position(|fields| fields[0] == record) {
+        Some(first) => first,
+        None => return,
+    };
+    let name_place = if record == b"state" { 2 } else { 1 };
+    let present = lines.iter().filter(|fields| fields[0] == record).count();
+    let wanted = most - random.below(4);
+    for number in present..wanted {
+        let mut copy = lines[first].clone();
+        if record != b"cell" && copy.len() > name_place {
+            copy[name_place] = format!("new.{}", number).into_bytes();
+        }
+        lines.insert(first + 1, copy);
+    }
+}
+
+/// Fills up to about the most bytes, with ended lines.
+fn lengthen(random: &mut Random, text: &[u8]) -> Vec<u8> {
+    let mut longer = text.to_vec();
+    let size = random.between(49_150, 49_154);
+    while longer.len() < size {
+        longer.push(if longer.len() % 50 == 0 { 10 } else { b'x' });
+    }
+    longer[size - 1] = 10;
+    longer
+}

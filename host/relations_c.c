@@ -1,0 +1,200 @@
+/*
+ * The relations call from C: worked examples and one refusal of each kind.
+ * Prints a line for each and ends with status 1 when something is wrong.
+ */
+#include <stdio.h>
+#include <string.h>
+#include "zeveltoren.h"
+
+/* The output has more bytes than any answer; what is not written stays so. */
+#define ROOM 40
+#define UNTOUCHED 0xee
+
+static int wrong_lines = 0;
+
+/* One call: what goes in, and what has to come out. */
+struct example {
+    const char *name;
+    uint64_t n;
+    size_t causes_length, stalls_length, room;
+    uint8_t causes[140], stalls[140];
+    uint64_t right;
+    uint8_t right_bytes[VN_MOST_MESSAGES];
+};
+
+static struct example of_messages(const char *name, unsigned n)
+{
+    struct example example;
+    memset(&example, 0, sizeof example);
+    example.name = name;
+    example.n = n;
+    example.causes_length = VN_ROW_BYTES * n;
+    example.stalls_length = VN_ROW_BYTES * n;
+    example.room = ROOM;
+    return example;
+}
+
+/* The packed number, put together from its parts. */
+static uint64_t pack(unsigned refusal, unsigned length, unsigned networks, unsigned needed,
+                     unsigned pairs)
+{
+    return refusal + (length << 8) + (networks << 16) + ((uint64_t)needed << 24)
+        + ((uint64_t)pairs << 32);
+}
+
+/* Whether out starts with the right bytes and is untouched after them. */
+static int bytes_are_right(const struct example *example, const uint8_t *out)
+{
+    size_t i, length = vn_length(example->right);
+    if (memcmp(out, example->right_bytes, length) != 0)
+        return 0;
+    for (i = length; i < ROOM; i++)
+        if (out[i] != UNTOUCHED)
+            return 0;
+    return 1;
+}
+
+static void check(const struct example *example)
+{
+    uint8_t out[ROOM];
+    uint64_t answer;
+    size_t i;
+    int right;
+    memset(out, UNTOUCHED, sizeof out);
+    answer = vn_relations(example->n, example->causes, example->causes_length, example->stalls,
+                          example->stalls_length, out, example->room);
+    right = answer == example->right && bytes_are_right(example, out);
+    printf("%-28s refusal %2u class %u networks %2u pairs %3u needed %2u:", example->name,
+           vn_refusal(answer), vn_class(answer), vn_networks(answer), vn_pairs(answer),
+           (unsigned)vn_needed(answer));
+    for (i = 0; i < vn_length(answer) && i < ROOM; i++)
+        printf(" %u", out[i]);
+    printf("%s\n", right ? "" : " WRONG");
+    if (!right)
+        wrong_lines++;
+}
+
+/* Ask 0, Pass 1, Give 2, Done 3. Ask stalls Ask and reaches the three others,
+ * so Ask waits for each of them: 3 pairs. The others wait for nothing. */
+static struct example bell(void)
+{
+    struct example example = of_messages("Bell", 4);
+    vn_set_pair(example.causes, 0, 1);
+    vn_set_pair(example.causes, 1, 2);
+    vn_set_pair(example.causes, 2, 3);
+    vn_set_pair(example.stalls, 0, 0);
+    example.right = pack(0, 4, 2, 0, 3);
+    example.right_bytes[0] = 1;
+    return example;
+}
+
+/* Case 8 of the paper: a causes b, c causes d; a stalls d, c stalls b. So d
+ * waits for b and b for d: 2 pairs, and the cycle b d. */
+static struct example case_8(void)
+{
+    struct example example = of_messages("case 8", 4);
+    vn_set_pair(example.causes, 0, 1);
+    vn_set_pair(example.causes, 2, 3);
+    vn_set_pair(example.stalls, 0, 3);
+    vn_set_pair(example.stalls, 2, 1);
+    example.right = pack(0, 2, 0, 0, 2);
+    example.right_bytes[0] = 1;
+    example.right_bytes[1] = 3;
+    return example;
+}
+
+/* Case 10: 32 messages, i causes i + 1, each stalls itself. Message i waits
+ * for all after it: 31 + 30 + .. + 1 pairs. */
+static struct example case_10(void)
+{
+    struct example example = of_messages("case 10", 32);
+    unsigned i;
+    for (i = 0; i < 32; i++) {
+        if (i < 31)
+            vn_set_pair(example.causes, i, i + 1);
+        vn_set_pair(example.stalls, i, i);
+        example.right_bytes[i] = (uint8_t)(31 - i);
+    }
+    example.right = pack(0, 32, 32, 0, 496);
+    return example;
+}
+
+/* All causes and all stalls of 32 messages: the most pairs. */
+static struct example fullest(void)
+{
+    struct example example = of_messages("everything", 32);
+    memset(example.causes, 0xff, 128);
+    memset(example.stalls, 0xff, 128);
+    example.right = pack(0, 1, 0, 0, 1024);
+    return example;
+}
+
+static void check_answers(void)
+{
+    struct example example = bell();
+    check(&example);
+    example.name = "Bell, room for 4";
+    example.room = 4;
+    check(&example);
+    example = case_8();
+    check(&example);
+    example = case_10();
+    check(&example);
+    example = fullest();
+    check(&example);
+}
+
+static void check_count(void)
+{
+    struct example example = of_messages("no message", 0);
+    example.right = pack(VN_COUNT, 0, 0, 0, 0);
+    check(&example);
+    example = of_messages("33 messages", 33);
+    example.right = pack(VN_COUNT, 0, 0, 0, 0);
+    check(&example);
+    example = bell();
+    example.right = pack(VN_COUNT, 0, 0, 0, 0);
+    example.name = "Bell, 2^32 + 4 messages";
+    example.n = ((uint64_t)1 << 32) + 4;
+    check(&example);
+    example.n = 4;
+    example.name = "Bell, causes a byte short";
+    example.causes_length = 15;
+    check(&example);
+    example.causes_length = 16;
+    example.name = "Bell, stalls a byte long";
+    example.stalls_length = 17;
+    check(&example);
+}
+
+static void check_stray_and_room(void)
+{
+    struct example example = bell();
+    example.right = pack(VN_STRAY, 0, 0, 0, 0);
+    example.name = "Bell, Done stalls message 4";
+    vn_set_pair(example.stalls, 3, 4);
+    check(&example);
+    example = bell();
+    example.right = pack(VN_ROOM, 0, 0, 4, 0);
+    example.name = "Bell, room for 3";
+    example.room = 3;
+    check(&example);
+    example = case_8();
+    example.right = pack(VN_ROOM, 0, 0, 4, 0);
+    example.name = "case 8, room for the cycle";
+    example.room = 2;
+    check(&example);
+}
+
+int main(void)
+{
+    check_answers();
+    check_count();
+    check_stray_and_room();
+    if (wrong_lines != 0) {
+        printf("relations_c: %d lines are wrong\n", wrong_lines);
+        return 1;
+    }
+    printf("relations_c: all right\n");
+    return 0;
+}

@@ -1,0 +1,686 @@
+//! Tests of the second program by itself.
+//!
+//! PROTOCOLS names the folder of real protocols with right answers; without
+//! it `protocols` and then `../shared/protocols` are tried.
+
+mod limits;
+mod random;
+mod second;
+
+use random::Random;
+use second::*;
+use std::fs;
+use std::path::{Path, PathBuf};
+
+// ---------------------------------------------------------------------
+// Helpers
+// ---------------------------------------------------------------------
+
+/// A listing as the paper prints it: `>` stands for a tab.
+fn tabbed(lines: &[&str]) -> Vec<u8> {
+    lines.iter().map(|line| format!("{}\n", line)).collect::<String>().replace('>', "\t").into()
+}
+
+fn relation(count: usize, pairs: &[(usize, usize)]) -> Relation {
+    let mut relation = Relation::empty(count);
+    for (from, to) in pairs {
+        relation.add(Message(*from), Message(*to));
+    }
+    relation
+}
+
+fn networks(numbers: &[usize]) -> Vec<Network> {
+    numbers.iter().copied().map(Network).collect()
+}
+
+fn messages(numbers: &[usize]) -> Vec<Message> {
+    numbers.iter().copied().map(Message).collect()
+}
+
+fn check_class_3(
+    count: usize,
+    causes: &[(usize, usize)],
+    stalls: &[(usize, usize)],
+    mapping: &[usize],
+) {
+    let stalls = relation(count, stalls);
+    let waits = waits_of(&relation(count, causes), &stalls);
+    let used = networks_used(&networks(mapping)).len();
+    let right = Plan::Class3 { networks: used, mapping: networks(mapping) };
+    assert_eq!(plan_of(&waits), right);
+    assert_eq!(verdict_of(&waits, &stalls, &networks(mapping)), Verdict::Fit);
+}
+
+fn check_class_2(
+    count: usize,
+    causes: &[(usize, usize)],
+    stalls: &[(usize, usize)],
+    cycle: &[usize],
+) {
+    let waits = waits_of(&relation(count, causes), &relation(count, stalls));
+    assert_eq!(plan_of(&waits), Plan::Class2 { cycle: messages(cycle) });
+}
+
+const BELL: [&str; 17] = [
+    "vn-protocol>1",
+    "message>Ask>req",
+    "message>Pass>fwd",
+    "message>Give>data",
+    "message>Done>ctl",
+    "event>load",
+    "state>cache>I>stable",
+    "state>cache>ID>transient",
+    "state>cache>V>stable",
+    "state>dir>Free>stable",
+    "state>dir>Wait>transient",
+    "cell>cache>I>load>go>ID>Ask",
+    "cell>cache>ID>Give>go>V>Done",
+    "cell>cache>V>Pass>go>I>Give",
+    "cell>dir>Free>Ask>go>Wait>Pass",
+    "cell>dir>Wait>Ask>stall",
+    "cell>dir>Wait>Done>go>Free",
+];
+
+fn bell() -> Vec<u8> {
+    tabbed(&BELL)
+}
+
+/// Bell with more lines at its end.
+fn bell_and(lines: &[&str]) -> Vec<u8> {
+    let mut text = bell();
+    text.extend(tabbed(lines));
+    text
+}
+
+fn bell_mapping(numbers: [usize; 4]) -> Vec<u8> {
+    let names = ["Ask", "Pass", "Give", "Done"];
+    let mut text = tabbed(&["vn-mapping>1"]);
+    for (name, number) in names.iter().zip(numbers) {
+        text.extend(format!("map\t{}\t{}\n", name, number).into_bytes());
+    }
+    text
+}
+
+fn judged(numbers: [usize; 4]) -> Vec<u8> {
+    judge(&bell(), &bell_mapping(numbers)).unwrap()
+}
+
+fn refused(number: u64, paper: u64, line: u64) -> Result<Listing, Refusal> {
+    Err(Refusal { number, paper, line })
+}
+
+// ---------------------------------------------------------------------
+// The fourteen cases and the listings of the paper
+// ---------------------------------------------------------------------
+
+#[test]
+fn cases_1_to_4() {
+    check_class_3(1, &[], &[], &[0]);
+    check_class_3(1, &[], &[(0, 0)], &[0]);
+    check_class_2(1, &[(0, 0)], &[(0, 0)], &[0]);
+    check_class_3(4, &[(0, 1), (1, 2), (2, 3)], &[], &[0, 0, 0, 0]);
+}
+
+#[test]
+fn cases_5_and_6() {
+    let right = tabbed(&[
+        "vn-plan>1", "class>3", "networks>2", "map>Ask>1", "map>Pass>0", "map>Give>0", "map>Done>0",
+    ]);
+    assert_eq!(plan(&bell()).unwrap(), right);
+    let text = bell_and(&["cell>cache>ID>Pass>stall"]);
+    assert_eq!(plan(&text).unwrap(), tabbed(&["vn-plan>1", "class>2", "cycle>Pass"]));
+}
+
+#[test]
+fn cases_7_to_9() {
+    check_class_3(4, &[(0, 1), (3, 2)], &[(0, 0), (3, 1)], &[2, 1, 0, 0]);
+    check_class_2(4, &[(0, 1), (2, 3)], &[(0, 3), (2, 1)], &[1, 3]);
+    // CleanUnique, Inv, Inv-Ack, Resp, Comp, ReadShared.
+    let chain = [(0, 1), (1, 2), (2, 3), (3, 4)];
+    check_class_3(6, &chain, &[(0, 5)], &[0, 0, 0, 0, 0, 1]);
+}
+
+#[test]
+fn case_10() {
+    let causes: Vec<(usize, usize)> = (0..31).map(|i| (i, i + 1)).collect();
+    let stalls: Vec<(usize, usize)> = (0..32).map(|i| (i, i)).collect();
+    let mapping: Vec<usize> = (0..32).map(|i| 31 - i).collect();
+    check_class_3(32, &causes, &stalls, &mapping);
+}
+
+#[test]
+fn cases_11_to_14() {
+    let fit = tabbed(&["vn-judge>1", "fit"]);
+    let first = tabbed(&["vn-judge>1", "unfit", "step>Ask>waits>Pass", "step>Pass>queues>Ask"]);
+    let second = tabbed(&["vn-judge>1", "unfit", "step>Ask>waits>Give", "step>Give>queues>Ask"]);
+    assert_eq!(judged([0, 0, 0, 0]), first);
+    assert_eq!(judged([0, 1, 0, 1]), second);
+    assert_eq!(judged([5, 9, 9, 9]), fit);
+    assert_eq!(judged([1, 0, 0, 0]), fit);
+}
+
+#[test]
+fn refusals_as_printed() {
+    let empty = plan(b"");
+    assert_eq!(printed(&empty), b"refused\t3\t0\t1\n");
+    assert_eq!(printed(&judge(&bell(), b"")), b"refused\t3\t1\t1\n");
+    assert_eq!(printed(&plan(&bell())), plan(&bell()).unwrap());
+}
+
+// ---------------------------------------------------------------------
+// The real protocols
+// ---------------------------------------------------------------------
+
+fn protocols_folder() -> PathBuf {
+    if let Ok(folder) = std::env::var("PROTOCOLS") {
+        return PathBuf::from(folder);
+    }
+    let here = PathBuf::from("protocols");
+    if here.is_dir() { here } else { PathBuf::from("../shared/protocols") }
+}
+
+/// Paths in the folder that end so, with the path before that ending.
+fn files_ending(folder: &Path, ending: &str) -> Vec<(String, PathBuf)> {
+    let mut found = Vec::new();
+    for entry in fs::read_dir(folder).expect("the folder of protocols; set PROTOCOLS") {
+        let path = entry.unwrap().path();
+        let name = path.to_str().unwrap().to_string();
+        if let Some(stem) = name.strip_suffix(ending) {
+            found.push((stem.to_string(), path.clone()));
+        }
+    }
+    assert!(!found.is_empty(), "no file ends in {}", ending);
+    found
+}
+
+#[test]
+fn real_plans() {
+    for (stem, path) in files_ending(&protocols_folder(), ".plan") {
+        let text = fs::read(format!("{}.tsv", stem)).unwrap();
+        assert_eq!(printed(&plan(&text)), fs::read(&path).unwrap(), "{}", stem);
+    }
+}
+
+#[test]
+fn real_judgements() {
+    for (stem, path) in files_ending(&protocols_folder(), ".judge") {
+        let (protocol_stem, _) = stem.rsplit_once('.').unwrap();
+        let protocol = fs::read(format!("{}.tsv", protocol_stem)).unwrap();
+        let mapping = fs::read(format!("{}.mapping.tsv", stem)).unwrap();
+        assert_eq!(printed(&judge(&protocol, &mapping)), fs::read(&path).unwrap(), "{}", stem);
+    }
+}
+
+// ---------------------------------------------------------------------
+// Random relations
+// ---------------------------------------------------------------------
+
+/// The fast variant, with bytes around the answer that must stay.
+fn fast(n: u64, causes: &[u8], stalls: &[u8], room: usize) -> Answer {
+    let mut out = vec![0xA5; room];
+    let numbers = relations_fast(n, causes, stalls, &mut out);
+    let length = numbers.length as usize;
+    assert!(out[length..].iter().all(|byte| *byte == 0xA5), "bytes after the length stay");
+    out.truncate(length);
+    let Numbers { number, length, networks, needed, pairs } = numbers;
+    Answer { number, length, networks, needed, pairs, bytes: out }
+}
+
+#[test]
+fn plain_is_fast() {
+    for seed in 0..20_000 {
+        let mut random = Random::new(seed);
+        let count = random.between(1, 32);
+        let call = random::call(&mut random, count);
+        let plain = relations(call.n, &call.causes, &call.stalls, call.room);
+        let quick = fast(call.n, &call.causes, &call.stalls, call.room);
+        assert_eq!(plain, quick, "seed {}", seed);
+        assert_eq!(plain.packed(), quick.packed());
+    }
+}
+
+#[test]
+fn every_small_relation() {
+    // All pairs of tables of two messages, and all bits at the limit.
+    for bits in 0..256u32 {
+        let table = |low: u32| {
+            let rows = [low & 3, low >> 2 & 3];
+            rows.iter().flat_map(|row| row.to_le_bytes()).collect::<Vec<u8>>()
+        };
+        let (causes, stalls) = (table(bits & 15), table(bits >> 4));
+        assert_eq!(relations(2, &causes, &stalls, 2), fast(2, &causes, &stalls, 2));
+        let causes = read_table(2, &causes).unwrap();
+        let stalls = read_table(2, &stalls).unwrap();
+        check_counts(&causes, &stalls, u64::from(bits));
+    }
+}
+
+/// Least count against brute force; class against the shown cycle.
+fn check_counts(causes: &Relation, stalls: &Relation, seed: u64) {
+    let waits = waits_of(causes, stalls);
+    let least = least_count(&waits);
+    assert_eq!(least, least_count_by_brute_force(&waits, stalls), "seed {}", seed);
+    let no_queues = Relation::empty(waits.count());
+    assert_eq!(least.is_none(), shown_cycle(&waits, &no_queues).is_some(), "seed {}", seed);
+}
+
+#[test]
+fn brute_force_is_least_count() {
+    for seed in 0..20_000 {
+        let mut random = Random::new(seed);
+        let count = random.between(1, 5);
+        let tables = random::tables(&mut random, count);
+        let causes = read_table(count, &tables.causes).unwrap();
+        let stalls = read_table(count, &tables.stalls).unwrap();
+        check_counts(&causes, &stalls, seed);
+    }
+}
+
+/// A closed walk as the paper wants it: real steps, right words, waits first.
+fn check_walk(steps: &[Step], waits: &Relation, queues: &Relation) {
+    assert_eq!(steps[0].word, Word::Waits);
+    for (place, step) in steps.iter().enumerate() {
+        assert_eq!(step.to, steps[(place + 1) % steps.len()].from);
+        match step.word {
+            Word::Waits => assert!(waits.has(step.from, step.to)),
+            Word::Queues => {
+                assert!(queues.has(step.from, step.to) && !waits.has(step.from, step.to))
+            }
+        }
+    }
+}
+
+#[test]
+fn rule_6_is_rule_7() {
+    let (mut fit, mut unfit) = (0, 0);
+    for seed in 0..10_000 {
+        let mut random = Random::new(seed);
+        let count = random.between(1, 32);
+        let tables = random::tables(&mut random, count);
+        let stalls = read_table(count, &tables.stalls).unwrap();
+        let waits = waits_of(&read_table(count, &tables.causes).unwrap(), &stalls);
+        let mapping = random::mapping(&mut random, count);
+        let queues = queues_of(&stalls, &mapping);
+        let by_walks = unfit_by_walks(&waits, &queues);
+        assert_eq!(by_walks, unfit_by_networks(&waits, &mapping), "seed {}", seed);
+        match verdict_of(&waits, &stalls, &mapping) {
+            Verdict::Fit => fit += 1,
+            Verdict::Unfit { steps } => {
+                check_walk(&steps, &waits, &queues);
+                unfit += 1;
+            }
+        }
+    }
+    assert!(fit > 500 && unfit > 500, "fit {} unfit {}", fit, unfit);
+}
+
+/// All closed walks of a length from a start, by trying every step.
+fn all_closed_walks(steps: &Relation, walk: &mut Vec<Message>, length: usize) -> Vec<Vec<Message>> {
+    let here = walk[walk.len() - 1];
+    if walk.len() == length {
+        let closed = steps.has(here, walk[0]);
+        return if closed { vec![walk.clone()] } else { Vec::new() };
+    }
+    let mut found = Vec::new();
+    for next in steps.messages() {
+        if steps.has(here, next) {
+            walk.push(next);
+            found.extend(all_closed_walks(steps, walk, length));
+            walk.pop();
+        }
+    }
+    found
+}
+
+/// The shown cycle by the words of the paper: all walks, then the first.
+fn shown_by_brute_force(waits: &Relation, queues: &Relation) -> Option<Vec<Message>> {
+    let steps = waits.or(queues);
+    for length in 1..=waits.count() {
+        let mut walks = Vec::new();
+        for start in waits.messages() {
+            walks.extend(all_closed_walks(&steps, &mut vec![start], length));
+        }
+        walks.retain(|walk| waits.has(walk[0], walk[1 % length]));
+        walks.sort();
+        if let Some(first) = walks.first() {
+            return Some(first.clone());
+        }
+    }
+    None
+}
+
+#[test]
+fn shown_cycles_by_brute_force() {
+    for seed in 0..5_000 {
+        let mut random = Random::new(seed);
+        let count = random.between(1, 6);
+        let tables = random::tables(&mut random, count);
+        let stalls = read_table(count, &tables.stalls).unwrap();
+        let waits = waits_of(&read_table(count, &tables.causes).unwrap(), &stalls);
+        let mapping = random::mapping(&mut random, count);
+        for queues in [Relation::empty(count), queues_of(&stalls, &mapping)] {
+            let right = shown_by_brute_force(&waits, &queues);
+            assert_eq!(shown_cycle(&waits, &queues), right, "seed {}", seed);
+        }
+    }
+}
+
+#[test]
+fn relations_refusals() {
+    let table = |count: usize| vec![0u8; 4 * count];
+    let numbers = |n: u64, causes: &[u8], stalls: &[u8], room: usize| {
+        assert_eq!(relations(n, causes, stalls, room), fast(n, causes, stalls, room));
+        let answer = relations(n, causes, stalls, room);
+        (answer.number, answer.needed)
+    };
+    assert_eq!(numbers(0, &[], &[], 9), (COUNT, 0));
+    assert_eq!(numbers(33, &table(33), &table(33), 99), (COUNT, 0));
+    assert_eq!(numbers(32, &table(32), &table(32), 32), (0, 0));
+    assert_eq!(numbers(32, &table(32), &table(32), 31), (ROOM, 32));
+    assert_eq!(numbers(2, &table(3), &table(2), 9), (COUNT, 0));
+    assert_eq!(numbers(2, &table(2), &table(1), 9), (COUNT, 0));
+    assert_eq!(numbers(1 << 32, &[], &[], 9), (COUNT, 0));
+    // Bit 1 of row 0 is right for 2 messages and stray for 1.
+    assert_eq!(numbers(1, &[2, 0, 0, 0], &table(1), 0), (STRAY, 0));
+    assert_eq!(numbers(1, &table(1), &[0, 0, 0, 128], 0), (STRAY, 0));
+    assert_eq!(numbers(2, &[2, 0, 0, 0, 0, 0, 0, 0], &table(2), 2), (0, 0));
+    // Class 2 with a cycle of 1 still needs room for n.
+    assert_eq!(numbers(2, &[1, 0, 0, 0, 0, 0, 0, 0], &[1, 0, 0, 0, 0, 0, 0, 0], 1), (ROOM, 2));
+}
+
+#[test]
+fn packed_numbers() {
+    let full = vec![0xFF; 128];
+    let answer = relations(32, &full, &full, 32);
+    assert_eq!(answer.packed(), (1024 << 32) + (1 << 8));
+    let answer = relations(3, &[0; 12], &[0; 12], 3);
+    assert_eq!(answer.packed(), (1 << 16) + (3 << 8));
+    assert_eq!(relations(3, &[0; 12], &[0; 12], 2).packed(), (3 << 24) + 16);
+    let length = plan(&bell()).unwrap().len();
+    assert_eq!(plan_with_room(&bell(), length).packed(), (length as u64) << 32);
+    let short = plan_with_room(&bell(), length - 1);
+    assert_eq!(short.packed(), ((length as u64) << 32) + 16);
+    assert_eq!((short.length, short.needed, short.bytes.len()), (0, length as u64, 0));
+    let refused = judge_with_room(&bell(), b"x", 0);
+    assert_eq!(refused.packed(), (1 << 16) + (1 << 8) + 2);
+}
+
+// ---------------------------------------------------------------------
+// Refusals of texts, on both sides
+// ---------------------------------------------------------------------
+
+/// Line 18 of Bell with one line more; 0 means accepted.
+fn number_after_bell(line: &str) -> u64 {
+    match plan(&bell_and(&[line])) {
+        Ok(_) => 0,
+        Err(refused) => {
+            assert_eq!((refused.paper, refused.line), (0, 18), "{}", line);
+            refused.number
+        }
+    }
+}
+
+#[test]
+fn heads_and_ends() {
+    let header = tabbed(&["vn-protocol>1"]);
+    assert_eq!(plan(b""), refused(HEADER, 0, 1));
+    assert_eq!(plan(b"\n"), refused(HEADER, 0, 1));
+    assert_eq!(plan(b"x"), refused(NO_END, 0, 1));
+    assert_eq!(plan(b"vn-protocol\t1"), refused(NO_END, 0, 1));
+    assert_eq!(plan(b"vn-protocol\t1\nmessage"), refused(NO_END, 0, 2));
+    assert_eq!(plan(b"vn-protocol\t1\r\n"), refused(HEADER, 0, 1));
+    assert_eq!(plan(b"vn-protocol\t1\t\n"), refused(HEADER, 0, 1));
+    assert_eq!(plan(b"\nvn-protocol\t1\n"), refused(HEADER, 0, 1));
+    assert_eq!(plan(&header), refused(NO_MESSAGE, 0, 0));
+    assert_eq!(plan(&vec![10; 49_152]), refused(HEADER, 0, 1));
+    assert_eq!(plan(&vec![10; 49_153]), refused(TOO_BIG, 0, 0));
+    assert_eq!(plan(&vec![b'x'; 49_153]), refused(TOO_BIG, 0, 0));
+    assert_eq!(plan(&vec![b'x'; 49_152]), refused(NO_END, 0, 1));
+}
+
+#[test]
+fn shapes() {
+    let wrong = [
+        "", "cell", "map>Ask>0", "vn-protocol>1", "Message>a>req", "message>a", "message>a>req>",
+        "message>a>Req", "event", "event>a>b", "state>cache>a", "state>cache>a>stable>",
+        "state>core>a>stable", "state>cache>a>steady", "cell>cache>I>load", "cell>cache>I>load>Go>I",
+        "cell>cache>I>load>go", "cell>cach>I>load>go>I", "cell>cache>ID>Ask>stall>",
+        "cell>cache>ID>Ask>stall>ID", "cell>cache>I>load>go>I>a>a>a>a>a>a>a>a>a", " event>a",
+        "cell>dir>Nowhere>Ask>", "cell>cache>I>load>go>I\r>>>>>>>>>",
+    ];
+    for line in wrong {
+        assert_eq!(number_after_bell(line), SHAPE, "{}", line);
+    }
+    let right = [
+        "cell>cache>I>load>go>I",
+        "cell>cache>I>load>go>I>Ask>Ask>Ask>Ask>Ask>Ask>Ask>Ask",
+        "cell>cache>ID>load>stall",
+        "cell>dir>Wait>Pass>stall",
+    ];
+    for line in right {
+        assert_eq!(number_after_bell(line), 0, "{}", line);
+    }
+}
+
+#[test]
+fn order_before_the_rest() {
+    assert_eq!(number_after_bell("message>New>req"), ORDER);
+    assert_eq!(number_after_bell("message>?>req"), ORDER);
+    assert_eq!(number_after_bell("event>load"), ORDER);
+    assert_eq!(number_after_bell("state>cache>I>stable"), ORDER);
+    let late = tabbed(&["vn-protocol>1", "event>e", "message>m>req"]);
+    assert_eq!(plan(&late), refused(ORDER, 0, 3));
+}
+
+#[test]
+fn names() {
+    let with_name = |name: &str| plan(&tabbed(&["vn-protocol>1", &format!("message>{}>req", name)]));
+    for name in ["a", "Z9-+_.", "0", ".", &"n".repeat(24)] {
+        assert!(with_name(name).is_ok(), "{}", name);
+    }
+    for name in ["", "a b", "a\r", "a/", "\u{e9}", "@", "[", "`", "{", ",", ":", &"n".repeat(25)] {
+        assert_eq!(with_name(name), refused(NAME, 0, 2), "{}", name);
+    }
+    let event = tabbed(&["vn-protocol>1", "message>a>req", "event>!"]);
+    assert_eq!(plan(&event), refused(NAME, 0, 3));
+    let state = tabbed(&["vn-protocol>1", "message>a>req", "state>dir>>stable"]);
+    assert_eq!(plan(&state), refused(NAME, 0, 3));
+}
+
+#[test]
+fn unknown_names() {
+    let wrong = [
+        "cell>cache>Free>load>go>I", "cell>cache>X>load>go>I", "cell>dir>Free>load>go>Free",
+        "cell>dir>Free>X>go>Free", "cell>cache>I>load>go>Free", "cell>cache>I>load>go>X",
+        "cell>cache>I>load>go>I>load", "cell>cache>I>load>go>I>Ask>X", "cell>cache>I>I>go>I",
+        "cell>cache>>load>stall", "cell>dir>Wait>load>stall", "cell>cache>I>load>go>I>",
+        "cell>cache>I>X>stall",
+    ];
+    for line in wrong {
+        assert_eq!(number_after_bell(line), UNKNOWN, "{}", line);
+    }
+}
+
+#[test]
+fn declared_twice() {
+    let head = ["vn-protocol>1", "message>a>req", "event>e"];
+    let check = |more: &[&str], right: Result<(), (u64, u64)>| {
+        let lines: Vec<&str> = head.iter().chain(more).copied().collect();
+        let result = plan(&tabbed(&lines)).map(|_| ()).map_err(|no| (no.number, no.line));
+        assert_eq!(result, right, "{:?}", more);
+    };
+    check(&["event>a"], Err((TWICE, 4)));
+    check(&["event>e"], Err((TWICE, 4)));
+    check(&["event>A"], Ok(()));
+    check(&["state>cache>a>stable", "state>dir>a>stable", "state>cache>e>stable"], Ok(()));
+    check(&["state>cache>s>stable", "state>cache>s>transient"], Err((TWICE, 5)));
+    let messages = tabbed(&["vn-protocol>1", "message>a>req", "message>a>ctl"]);
+    assert_eq!(plan(&messages), refused(TWICE, 0, 3));
+}
+
+#[test]
+fn stalls_in_stable_states_and_conflicts() {
+    assert_eq!(number_after_bell("cell>cache>V>Pass>stall"), STALL_STABLE);
+    assert_eq!(number_after_bell("cell>cache>I>load>stall"), STALL_STABLE);
+    assert_eq!(number_after_bell("cell>dir>Wait>Ask>stall"), CONFLICT);
+    assert_eq!(number_after_bell("cell>dir>Wait>Ask>go>Free"), CONFLICT);
+    assert_eq!(number_after_bell("cell>dir>Wait>Done>stall"), CONFLICT);
+    assert_eq!(number_after_bell("cell>dir>Wait>Done>go>Free"), 0);
+}
+
+#[test]
+fn entries() {
+    let head = [
+        "vn-protocol>1", "message>a>req", "event>e", "state>cache>S>stable", "state>cache>T>transient",
+        "state>dir>T>transient",
+    ];
+    let check = |more: &[&str], line: u64| {
+        let lines: Vec<&str> = head.iter().chain(more).copied().collect();
+        let found = plan(&tabbed(&lines)).map(|_| ()).map_err(|no| (no.number, no.line));
+        let right = if line == 0 { Ok(()) } else { Err((NO_ENTRY, line)) };
+        assert_eq!(found, right, "{:?}", more);
+    };
+    // A stalled event needs no entry.
+    check(&["cell>cache>T>e>stall"], 0);
+    check(&["cell>cache>T>a>stall"], 7);
+    // An entry by a message, also when it stands later; not one of the other controller.
+    check(&["cell>cache>T>a>stall", "cell>cache>S>a>go>T"], 0);
+    check(&["cell>dir>T>a>stall", "cell>cache>S>a>go>T"], 7);
+    // An event entry counts by what it sends.
+    check(&["cell>cache>S>e>go>T", "cell>cache>T>a>stall"], 8);
+    check(&["cell>cache>S>e>go>T>a", "cell>cache>T>a>stall"], 0);
+    // A cell that stays in its state enters nothing.
+    check(&["cell>cache>T>e>go>T>a", "cell>cache>T>a>stall"], 8);
+    // The first such line.
+    check(&["cell>dir>T>a>stall", "cell>cache>T>a>stall"], 7);
+}
+
+#[test]
+fn one_more_than_a_limit() {
+    let full = limits::full();
+    assert_eq!(full.len(), 49_152);
+    let protocol = read_protocol(&full).unwrap();
+    assert_eq!(protocol.messages.len(), 32);
+    assert_eq!(protocol.events.len(), 8);
+    assert_eq!(protocol.states.len(), 64);
+    assert_eq!(protocol.cells.len(), 512);
+    assert!(plan(&full).is_ok());
+    for past in limits::one_more_of_each() {
+        let right = refused(past.number, 0, past.line);
+        assert_eq!(plan(&past.text), right, "{}", past.limit);
+    }
+}
+
+/// The refusal number of a text with one more line, on that line.
+fn number_with(text: &[u8], line: &str) -> u64 {
+    let lines = text.iter().filter(|byte| **byte == 10).count() as u64;
+    let longer = [text, &tabbed(&[line])].concat();
+    let refused = plan(&longer).unwrap_err();
+    assert_eq!((refused.paper, refused.line), (0, lines + 1), "{}", line);
+    refused.number
+}
+
+#[test]
+fn smallest_number_of_a_line() {
+    // All tables are full, but there are bytes left.
+    let cells = limits::protocol_text(&limits::Counts { bytes: 45_000, ..limits::MOST });
+    let message = limits::message_name(Message(0));
+    let stall = format!("cell>cache>s0>{}>stall", message);
+    let conflict = cells.split(|byte| *byte == 10).find(|line| line.ends_with(b"stall")).unwrap();
+    let conflict = String::from_utf8(conflict.to_vec()).unwrap().replace('\t', ">");
+    assert_eq!(number_with(&cells, &stall), FULL);
+    assert_eq!(number_with(&cells, &conflict), FULL);
+    assert_eq!(number_with(&cells, "cell>cache>s0>Nothing>stall"), UNKNOWN);
+    assert_eq!(number_with(&cells, "state>cache>s0>stable"), ORDER);
+    assert_eq!(number_with(&cells, "state>cache>s0>steady"), SHAPE);
+    let mut messages = tabbed(&["vn-protocol>1"]);
+    for number in 0..32 {
+        messages.extend(format!("message\tm{}\treq\n", number).into_bytes());
+    }
+    assert!(plan(&messages).is_ok());
+    assert_eq!(number_with(&messages, "message>m32>req"), FULL);
+    assert_eq!(number_with(&messages, "message>m31>req"), TWICE);
+    assert_eq!(number_with(&messages, "message>m?>req"), NAME);
+    assert_eq!(number_with(&messages, "message>m?>ask"), SHAPE);
+    // Stable comes before conflict.
+    assert_eq!(number_after_bell("cell>dir>Free>Ask>stall"), STALL_STABLE);
+}
+
+#[test]
+fn longest_answers() {
+    let listing = plan(&limits::longest_plan()).unwrap();
+    assert!(listing.starts_with(&tabbed(&["vn-plan>1", "class>3", "networks>32"])));
+    // 22 of the 32 networks have two digits.
+    assert_eq!(listing.len(), 30 + 32 * 31 + 22);
+    let listing = plan(&limits::longest_cycle()).unwrap();
+    assert_eq!(listing.len(), 18 + 5 + 32 * 25 + 1);
+    let (protocol, mapping) = limits::longest_unfit();
+    let listing = judge(&protocol, &mapping).unwrap();
+    assert_eq!(listing.len(), 17 + 16 * 61 + 16 * 62);
+}
+
+#[test]
+fn mapping_refusals() {
+    let check = |mapping: &[u8], number: u64, line: u64| {
+        assert_eq!(judge(&bell(), mapping), refused(number, 1, line));
+    };
+    let lines = ["vn-mapping>1", "map>Ask>31", "map>Pass>0", "map>Give>9", "map>Done>10"];
+    assert!(judge(&bell(), &tabbed(&lines)).is_ok());
+    check(b"", HEADER, 1);
+    check(&bell(), HEADER, 1);
+    check(b"vn-mapping\t1", NO_END, 1);
+    check(&limits::long_mapping(49_153), TOO_BIG, 0);
+    check(&limits::long_mapping(49_152), SHAPE, 2);
+    check(&tabbed(&lines[..1]), UNMATCHED, 2);
+    check(&tabbed(&lines[..4]), UNMATCHED, 5);
+    let one_line = |line: &str| tabbed(&["vn-mapping>1", line]);
+    for line in ["", "map>Ask", "map>Ask>0>", "Map>Ask>0", "map>X"] {
+        check(&one_line(line), SHAPE, 2);
+    }
+    for line in ["map>Pass>0", "map>X>99", "map>>0", "map>ask>0"] {
+        check(&one_line(line), UNMATCHED, 2);
+    }
+    for field in ["", "32", "00", "01", "+1", "-1", "1 ", "0x1", "100", "4294967296", "\u{661}"] {
+        check(&one_line(&format!("map>Ask>{}", field)), NETWORK, 2);
+    }
+    let mut too_many = tabbed(&lines);
+    too_many.extend(b"map\tDone\t0\n");
+    check(&too_many, UNMATCHED, 6);
+    // The protocol comes first.
+    assert_eq!(judge(b"", b""), refused(HEADER, 0, 1));
+}
+
+// ---------------------------------------------------------------------
+// Random texts
+// ---------------------------------------------------------------------
+
+#[test]
+fn random_texts_and_damage() {
+    let mut seen = [0usize; 19];
+    let mut judged_fit = [0usize; 2];
+    for seed in 0..10_000 {
+        let mut random = Random::new(seed);
+        let mut protocol = random::protocol_text(&mut random);
+        let mut mapping = random::mapping_text(&mut random, &protocol);
+        if seed % 2 == 1 {
+            protocol = random::damage(&mut random, &protocol);
+        }
+        if seed % 3 == 1 {
+            mapping = random::damage(&mut random, &mapping);
+        }
+        match plan(&protocol) {
+            Ok(_) => seen[0] += 1,
+            Err(no) => seen[no.number as usize] += 1,
+        }
+        match judge(&protocol, &mapping) {
+            Ok(listing) => judged_fit[usize::from(listing.ends_with(b"\nfit\n"))] += 1,
+            Err(no) if no.paper == 1 => seen[no.number as usize] += 1,
+            Err(_) => {}
+        }
+    }
+    // Every answer and every refusal of texts turns up, none too rarely.
+    assert!(seen[0] > 3_000, "{:?}", seen);
+    assert!(seen[1..=15].iter().all(|times| *times >= 5), "{:?}", seen);
+    assert!(judged_fit.iter().all(|times| *times > 100), "{:?}", judged_fit);
+    println!("accepted and refused {:?}, unfit and fit {:?}", seen, judged_fit);
+}

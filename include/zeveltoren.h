@@ -1,0 +1,118 @@
+/*
+ * Zeveltoren: how many virtual networks does a coherence protocol need?
+ *
+ * The calls that a C program may make. Link with -lrelations, on x86-64. The
+ * library keeps no state, takes no memory but the stack, and calls nothing
+ * but memcpy and memset: a call may be made from any thread at any time.
+ */
+#ifndef ZEVELTOREN_H
+#define ZEVELTOREN_H
+
+#include <stddef.h>
+#include <stdint.h>
+
+#ifdef __cplusplus
+extern "C" {
+#endif
+
+/* ---- The relations call ---- */
+
+/* The most messages, and so the most bytes of an answer. */
+#define VN_MOST_MESSAGES 32
+
+/* Each message has one row of this many bytes in each table. */
+#define VN_ROW_BYTES 4
+
+/*
+ * Refusal numbers of vn_relations, in the order in which it checks: the
+ * first that applies is returned. The numbers 1 to 15 belong to texts and
+ * never come from this call.
+ */
+#define VN_ACCEPTED 0 /* not refused: there is an answer */
+#define VN_COUNT 17   /* n is 0 or above 32, or a table is not 4 * n bytes long */
+#define VN_STRAY 18   /* a row has a bit at place n or above */
+#define VN_ROOM 16    /* the output has fewer than n bytes, in either class */
+
+/*
+ * Plans the networks for n messages, numbered from 0 to n - 1.
+ *
+ * causes and stalls are tables of n rows. Row i is 4 bytes, lowest byte
+ * first; bit j of it says that message i causes (stalls) message j. So the
+ * pair (i, j) is bit j % 8 of byte 4 * i + j / 8: see vn_set_pair.
+ *
+ * A message b waits for c when some a stalls b, and c is reached from a by
+ * one or more causes steps.
+ *
+ * Class 3, the waits have no cycle: out[i] becomes the network of message
+ * i, for each i below n. Networks are numbered from 0. The length is n, the
+ * count of networks at least 1. No fit mapping has fewer networks.
+ *
+ * Class 2, the waits have a cycle, so that no mapping helps: out gets the
+ * message numbers of the cycle that is shown, each of which waits for the
+ * next, and the last for the first. It is a shortest one, and among those
+ * the first in dictionary order. The length is that of the cycle, the count
+ * of networks 0.
+ *
+ * Either way bytes of out after the length stay as they were.
+ *
+ * Refused: no byte of out changes.
+ *
+ * The returned number, taken apart by the functions below:
+ *
+ *   bits  0 to  7  the refusal number, 0 when the call is accepted
+ *   bits  8 to 15  the length: how many bytes of out were written
+ *   bits 16 to 23  the least count of networks; 0 for class 2
+ *   bits 24 to 31  with refusal 16 the length needed, which is n
+ *   bits 32 to 47  how many pairs (b, c) there are where b waits for c
+ *   bits 48 to 63  0
+ *
+ * Whatever is not said to have a value is 0. So with a refusal all is 0 but
+ * the refusal number and, with 16, the length needed.
+ *
+ * What the caller owes: each pointer is good for as many bytes as the length
+ * after it says, and out shares no byte with the tables. (causes and stalls
+ * may be the same.) Nothing needs to be aligned. Nothing else is asked: any
+ * n, any lengths and any bytes are answered or refused.
+ * A pointer with length 0 is not followed and need not point to anything,
+ * but it should not be NULL: the parameters are slices, which have a place
+ * even when they are empty. The address of any object will do.
+ */
+uint64_t vn_relations(uint64_t n,
+                      const uint8_t *causes, size_t causes_length,
+                      const uint8_t *stalls, size_t stalls_length,
+                      uint8_t *out, size_t out_length);
+
+/* Bits 0 to 7: VN_ACCEPTED, VN_COUNT, VN_STRAY or VN_ROOM. */
+static inline unsigned vn_refusal(uint64_t answer) { return (unsigned)(answer & 0xff); }
+
+/* Bits 8 to 15: how many bytes of the output were written. */
+static inline size_t vn_length(uint64_t answer) { return (size_t)(answer >> 8 & 0xff); }
+
+/* Bits 16 to 23: the least count of networks, 0 for class 2. */
+static inline unsigned vn_networks(uint64_t answer) { return (unsigned)(answer >> 16 & 0xff); }
+
+/* Bits 24 to 31: with VN_ROOM the length needed, else 0. */
+static inline size_t vn_needed(uint64_t answer) { return (size_t)(answer >> 24 & 0xff); }
+
+/* Bits 32 to 47: the number of waits pairs. */
+static inline unsigned vn_pairs(uint64_t answer) { return (unsigned)(answer >> 32 & 0xffff); }
+
+/* 3 or 2, the class of an accepted call; 0 when it was refused. */
+static inline unsigned vn_class(uint64_t answer)
+{
+    if (vn_refusal(answer) != VN_ACCEPTED)
+        return 0;
+    return vn_networks(answer) != 0 ? 3 : 2;
+}
+
+/* Sets the pair (from, to) in a table. Both must be below n. */
+static inline void vn_set_pair(uint8_t *table, unsigned from, unsigned to)
+{
+    table[VN_ROW_BYTES * from + to / 8] |= (uint8_t)(1u << to % 8);
+}
+
+#ifdef __cplusplus
+}
+#endif
+
+#endif
