@@ -62,7 +62,7 @@ returns-2 c =
     let row = c .before .before .before .before .before .before .before .before .before .before .before .args .row in
     let f = split 9 line in
     gives-no-network row f (c .before .before .before .before .network-of .result) (c .before .before .before .before .network-of .ensures ∙ ap networkOf ((map-field (c .before .before .before .before .before .before .before .before .before .before .before .args .line .now) (c .before .before .before .before .before .before .before .before .before .fields-of .result) 2 (c .before .before .before .before .before .before .before .before .before .before .before .pre) (c .before .before .before .before .before .before .before .before .before .fields-of .ensures) (omega arith)) .bytes))
-    (ap (sameText (nameText (row .name))) (sym ((map-field (c .before .before .before .before .before .before .before .before .before .before .before .args .line .now) (c .before .before .before .before .before .before .before .before .before .fields-of .result) 1 (c .before .before .before .before .before .before .before .before .before .before .before .pre) (c .before .before .before .before .before .before .before .before .before .fields-of .ensures) (omega arith)) .bytes)) ∙ sym (c .before .before .named .ensures) ∙ not-false (c .before .before .named .result) (c .before .if1 .left)) (c .if2 .taken)
+    (ap (sameText (nameText (row .name))) (sym ((map-field (c .before .before .before .before .before .before .before .before .before .before .before .args .line .now) (c .before .before .before .before .before .before .before .before .before .fields-of .result) 1 (c .before .before .before .before .before .before .before .before .before .before .before .pre) (c .before .before .before .before .before .before .before .before .before .fields-of .ensures) (omega arith)) .bytes)) ∙ sym (c .before .before .named .ensures) ∙ not-false (c .before .before .named .result) (c .before .if1 .left)) (omega arith)
 
 returns-3 : tie.Need-returns-3
 returns-3 c =
@@ -70,7 +70,7 @@ returns-3 c =
     let row = c .before .before .before .before .before .before .before .before .before .before .before .args .row in
     let f = split 9 line in
     gives-network row f (c .before .before .before .before .network-of .result) (c .before .before .before .before .network-of .ensures ∙ ap networkOf ((map-field (c .before .before .before .before .before .before .before .before .before .before .before .args .line .now) (c .before .before .before .before .before .before .before .before .before .fields-of .result) 2 (c .before .before .before .before .before .before .before .before .before .before .before .pre) (c .before .before .before .before .before .before .before .before .before .fields-of .ensures) (omega arith)) .bytes))
-    (ap (sameText (nameText (row .name))) (sym ((map-field (c .before .before .before .before .before .before .before .before .before .before .before .args .line .now) (c .before .before .before .before .before .before .before .before .before .fields-of .result) 1 (c .before .before .before .before .before .before .before .before .before .before .before .pre) (c .before .before .before .before .before .before .before .before .before .fields-of .ensures) (omega arith)) .bytes)) ∙ sym (c .before .before .named .ensures) ∙ not-false (c .before .before .named .result) (c .before .if1 .left)) (c .if2 .left)
+    (ap (sameText (nameText (row .name))) (sym ((map-field (c .before .before .before .before .before .before .before .before .before .before .before .args .line .now) (c .before .before .before .before .before .before .before .before .before .fields-of .result) 1 (c .before .before .before .before .before .before .before .before .before .before .before .pre) (c .before .before .before .before .before .before .before .before .before .fields-of .ensures) (omega arith)) .bytes)) ∙ sym (c .before .before .named .ensures) ∙ not-false (c .before .before .named .result) (c .before .if1 .left)) (omega arith)
 
 pub map-line-spec : {M : Type 1} → statement M
 map-line-spec =

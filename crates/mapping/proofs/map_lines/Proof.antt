@@ -125,10 +125,10 @@ refuse-requires-4 : tie.Need-refuse-requires-4 Inv-loop μ-loop
 refuse-requires-4 c κs = search needs
 
 returns-4 : tie.Need-returns-4 Inv-loop μ-loop
-returns-4 c = c .refuse4 .ensures ∙ going-short gone (c .before .before .before .before .before .args .text .now) (c .before .before .before .before .before .args .from) (c .before .before .before .before .before .args .t3) (c .before .before .before .before .before .args .count) (c .before .before .before .loop .at) (c .before .before .before .loop .i) (c .before .before .before .loop .networks) (c .before .before .before .loop .inv) (c .before .before .loop-test .left) (c .before .if4 .taken) (long (c .before .before .before .before .before)) (c .before .before .before .before .before .pre .1)
+returns-4 c = c .refuse4 .ensures ∙ going-short gone (c .before .before .before .before .before .args .text .now) (c .before .before .before .before .before .args .from) (c .before .before .before .before .before .args .t3) (c .before .before .before .before .before .args .count) (c .before .before .before .loop .at) (c .before .before .before .loop .i) (c .before .before .before .loop .networks) (c .before .before .before .loop .inv) (c .before .before .loop-test .left) (omega arith) (long (c .before .before .before .before .before)) (c .before .before .before .before .before .pre .1)
 
 returns-5 : tie.Need-returns-5 Inv-loop μ-loop
-returns-5 c = going-done gone (c .before .before .before .before .args .text .now) (c .before .before .before .before .args .from) (c .before .before .before .before .args .t3) (c .before .before .before .before .args .count) (c .before .before .loop .at) (c .before .before .loop .i) (c .before .before .loop .networks) (c .before .before .loop .inv) (c .before .loop-test .left) (c .if4 .left) (long (c .before .before .before .before)) (c .before .before .before .before .pre .1)
+returns-5 c = going-done gone (c .before .before .before .before .args .text .now) (c .before .before .before .before .args .from) (c .before .before .before .before .args .t3) (c .before .before .before .before .args .count) (c .before .before .loop .at) (c .before .before .loop .i) (c .before .before .loop .networks) (c .before .before .loop .inv) (c .before .loop-test .left) (omega arith) (long (c .before .before .before .before)) (c .before .before .before .before .pre .1)
 
 pub map-lines-spec : {M : Type 1} → statement M
 map-lines-spec =
