@@ -1,22 +1,18 @@
 -- The numbers of a cell that is not refused are those of declared messages, events and states.
 use Prim.Native.Nat.{ℕ, _-_, _≤_, _<_}
-use mathlib.Core.Path.{_≡_, refl, sym, ap, ap₂, subst, _∙_}
-use mathlib.Core.Logic.{_⊎_, ⊎-elim}
-use mathlib.Core.Bool.{Bool, true, false, not, _&&_, _||_, cond}
-use mathlib.Core.List.{List, [], _∷_, _++_, map}
+use mathlib.Core.Path.{_≡_, refl, sym, ap, subst, _∙_}
+use mathlib.Core.Logic.{⊎-elim}
+use mathlib.Core.Bool.{Bool, true, false, _&&_, _||_, cond}
+use mathlib.Core.List.{List, [], _∷_, map}
 use native.Mathlib.Omega.{arith}
-use lib.ListN.{length, take, drop, replicate, length-drop, length-map, drop-of-length-le}
+use lib.ListN.{length, replicate, length-drop, length-map, drop-of-length-le}
 use lib.Seq.{take-at}
-use lib.Dec.{eqb, ltb, leb}
-use borrow.Author.Tests.{ltb-true, eqb-true, leb-true, not-false}
-use Rattle.rules.specs.declared.Message.{Message}
+use lib.Dec.{leb}
+use borrow.Author.Tests.{ltb-true}
 use Rattle.rules.specs.Lists.{_∈_}
 use Rattle.text.specs.Parts.{split}
-use Rattle.text.specs.Words.{stallWord, cellWord, goWord}
-use Rattle.papers.specs.declared.Refusal.{Refusal}
-use Rattle.tables.specs.declared.Trigger.{Trigger}
+use Rattle.text.specs.Words.{stallWord, cellWord}
 use Rattle.tables.specs.declared.Trigger.the-variants.{Message as OnMessage, Event as OnEvent}
-use Rattle.tables.specs.declared.Outcome.{Outcome}
 use Rattle.tables.specs.declared.Outcome.the-variants.{Stall, Go}
 use Rattle.tables.specs.declared.MessageRow.{MessageRow}
 use Rattle.tables.specs.declared.EventRow.{EventRow}
@@ -25,8 +21,8 @@ use Rattle.tables.specs.declared.Cell.{Cell}
 use Rattle.tables.specs.declared.Tables.{Tables}
 use Rattle.tables.specs.Cells.{number, TriggerOk, OutcomeOk, CellOk, sentOf as numbersOf}
 use Rattle.names.specs.Names.{messageAt, eventAt, stateAt, isMessage, isEvent, isState}
-use Rattle.records.specs.Line.{Line, field, says, cell, isController, cellController, messageNo, triggerOf, outcomeOf, sentFields, sentOf, cellOf}
-use Rattle.records.specs.Checks.{shaped, stallShape, goShape, isTrigger, isCache, allMessages, knownCell, stallInStable, conflict}
+use Rattle.records.specs.Line.{Line, field, says, cell, cellController, messageNo, triggerOf, outcomeOf, sentFields, sentOf, cellOf}
+use Rattle.records.specs.Checks.{shaped, isTrigger, isCache, allMessages, knownCell, stallInStable, conflict}
 use Rattle.records.proofs.Numbers.{lineNumber, refuses, refuses-one}
 use Rattle.records.proofs.Sections.{a-cell}
 use Rattle.cells.specs.declared.CellLine.{CellLine}

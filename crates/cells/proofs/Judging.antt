@@ -16,7 +16,7 @@ use Rattle.tables.specs.declared.Cell.{Cell}
 use Rattle.tables.specs.declared.Tables.{Tables}
 use Rattle.tables.specs.Tables.{noCell}
 use Rattle.tables.specs.Clash.{anyClash}
-use Rattle.records.specs.Line.{Line, says, cell, cellOf}
+use Rattle.records.specs.Line.{Line, says, cell}
 use Rattle.records.specs.Checks.{shaped, knownCell, stallInStable, conflict}
 use Rattle.records.proofs.Numbers.{eightOf, lineNumber, refuses}
 use Rattle.records.proofs.Sections.{a-cell}

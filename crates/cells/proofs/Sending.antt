@@ -1,7 +1,7 @@
 -- The messages that a cell's line sends: the loop over its fields.
 use Prim.Native.Nat.{ℕ, zero, suc, _+_, _-_, _≤_, _<_}
-use mathlib.Core.Path.{_≡_, refl, sym, ap, ap₂, subst, _∙_}
-use mathlib.Core.Bool.{Bool, true, false, _&&_, and-true, and-false}
+use mathlib.Core.Path.{_≡_, refl, sym, ap, ap₂, _∙_}
+use mathlib.Core.Bool.{Bool, true, false, _&&_, and-false}
 use mathlib.Core.List.{List, [], _∷_, _++_, map, map-append, append-assoc}
 use native.Mathlib.Numerals.{add-one}
 use native.Mathlib.Omega.{arith}
@@ -17,7 +17,7 @@ use Rattle.names.specs.Names.{messageNamed, isMessage, foundMessage}
 use Rattle.records.specs.Line.{messageNo}
 use Rattle.records.specs.Checks.{allMessages}
 use Rattle.cells.specs.declared.Sent.{Sent}
-use Rattle.cells.specs.Known.{MessagesAre, sentFrom, SentTold}
+use Rattle.cells.specs.Known.{MessagesAre, SentTold}
 use Rattle.cells.proofs.Named.{message-known, message-unknown}
 
 abbrev pub noMessages : List Message

@@ -1,18 +1,17 @@
 -- The shape of a cell's line.
 use Prim.Native.Nat.{ℕ, _≤_, _<_}
 use mathlib.Core.Path.{_≡_, refl, sym, ap, ap₂, subst, _∙_}
-use mathlib.Core.Bool.{Bool, true, false, not, _&&_, _||_, cond, and-false, or-false, or-true}
+use mathlib.Core.Bool.{Bool, true, false, _&&_, _||_, cond, and-false}
 use mathlib.Core.Logic.{_⊎_, inl, inr}
-use mathlib.Core.List.{List, []}
+use mathlib.Core.List.{List}
 use native.Mathlib.Omega.{arith}
-use lib.ListN.{length, getD}
+use lib.ListN.{length}
 use lib.Dec.{eqb, leb}
 use borrow.Author.Tests.{eq-eqb, ne-eqb, eqb-true, eqb-false, le-leb, lt-leb, leb-true}
 use Rattle.text.specs.declared.Fields.{Fields}
 use Rattle.text.specs.Parts.{split, sameText}
 use Rattle.text.specs.Words.{stallWord, goWord}
 use Rattle.tables.specs.declared.Controller.{Controller}
-use Rattle.records.specs.declared.FoundController.{FoundController}
 use Rattle.records.specs.declared.FoundController.the-variants.{Is as IsController, Nothing as NoController}
 use Rattle.records.specs.Line.{Line, field, says, cell, isController, cellController}
 use Rattle.records.specs.Checks.{shaped, stallShape, goShape}
@@ -21,7 +20,6 @@ use Rattle.records.specs.Found.{foundController}
 use Rattle.records.proofs.Fields.{few, counted, many}
 use Rattle.records.proofs.Words.{controller-is, controller-nothing}
 use Rattle.records.proofs.Sections.{other-word}
-use Rattle.cells.specs.declared.Shape.{Shape}
 use Rattle.cells.specs.declared.Shape.the-variants.{Stall, Go, Wrong}
 use Rattle.cells.specs.Shape.{shapeOf, Stalls, Goes}
 

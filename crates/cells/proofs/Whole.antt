@@ -1,13 +1,11 @@
 -- The cell that a line stands for, from the place that it names and where it goes to.
-use Prim.Native.Nat.{ℕ, zero, suc, _-_, _≤_, _<_}
-use mathlib.Core.Path.{_≡_, refl, sym, ap, ap₂, subst, _∙_}
-use mathlib.Core.Bool.{Bool, true, false, _&&_, _||_, cond, and-assoc, and-true, and-false}
-use mathlib.Core.List.{List, [], _∷_, _++_, map}
+use Prim.Native.Nat.{ℕ, zero, suc, _≤_, _<_}
+use mathlib.Core.Path.{_≡_, refl, sym, ap, ap₂, _∙_}
+use mathlib.Core.Bool.{Bool, true, false, _&&_, _||_, cond, and-assoc, and-false}
+use mathlib.Core.List.{List, [], _∷_}
 use native.Mathlib.Omega.{arith}
-use lib.ListN.{length, getD, take, drop, replicate, drop-of-length-le}
+use lib.ListN.{length, getD, take, drop-of-length-le}
 use lib.Seq.{getD-take}
-use lib.Dec.{ltb}
-use borrow.Author.Tests.{ltb-true}
 use Rattle.rules.specs.declared.Message.{Message}
 use Rattle.rules.specs.declared.State.{State}
 use Rattle.text.specs.Parts.{firstIndex}
@@ -27,7 +25,7 @@ use Rattle.names.specs.declared.FoundState.{FoundState}
 use Rattle.names.specs.declared.FoundState.the-variants.{At as StateAt, Nothing as NoState}
 use Rattle.names.specs.Names.{stateNamed, stateAt, isState, foundState}
 use Rattle.names.proofs.Look.{state-at}
-use Rattle.records.specs.Line.{Line, field, says, cell, cellController, triggerOf, outcomeOf, sentFields, sentOf, cellOf}
+use Rattle.records.specs.Line.{Line, field, says, cell, cellController, triggerOf, sentFields, sentOf, cellOf}
 use Rattle.records.specs.Checks.{isTrigger, allMessages, knownCell, isStable, inStable, stallInStable}
 use Rattle.cells.specs.declared.FoundTrigger.{FoundTrigger}
 use Rattle.cells.specs.declared.FoundTrigger.the-variants.{At, Nothing}
@@ -37,7 +35,7 @@ use Rattle.cells.specs.declared.Target.{Target}
 use Rattle.cells.specs.declared.Reading.{Reading}
 use Rattle.cells.specs.Shape.{Stalls, Goes}
 use Rattle.cells.specs.Told.{Declared}
-use Rattle.cells.specs.Known.{MessagesAre, EventsAre, StatesAre, TriggerTold, SentTold, PlaceTold, TargetTold, CellRead, sentFrom}
+use Rattle.cells.specs.Known.{TriggerTold, SentTold, PlaceTold, TargetTold, CellRead, sentFrom}
 use Rattle.cells.proofs.Named.{state-known, state-unknown, trigger-known, trigger-unknown, messages-are, events-are, states-are}
 use Rattle.cells.proofs.Sending.{noMessages}
 

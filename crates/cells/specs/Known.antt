@@ -1,7 +1,7 @@
 -- What the fields of a cell's line name, where all of it is declared and allowed there.
 use Prim.Native.Nat.{ℕ, _-_, _<_}
 use mathlib.Core.Path.{_≡_}
-use mathlib.Core.Bool.{Bool, true, false, _&&_, cond}
+use mathlib.Core.Bool.{Bool, true, _&&_, cond}
 use mathlib.Core.List.{List, _++_, map}
 use lib.ListN.{length, replicate}
 use lib.Dec.{ltb}

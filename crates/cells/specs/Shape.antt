@@ -1,8 +1,7 @@
 -- The shape of a cell's line: whose cell it is, and whether it stalls or goes on.
-use Prim.Native.Nat.{ℕ, _≤_}
+use Prim.Native.Nat.{_≤_}
 use mathlib.Core.Path.{_≡_}
-use mathlib.Core.Bool.{Bool, true, false, cond}
-use mathlib.Core.List.{List}
+use mathlib.Core.Bool.{true, false, cond}
 use lib.ListN.{length}
 use Rattle.text.specs.Words.{stallWord}
 use Rattle.tables.specs.declared.Controller.{Controller}

@@ -57,7 +57,7 @@ module _ (text : List ℕ) (from from-line : ℕ) (t₀ : Tables) (at line : ℕ
   abbrev next : ℕ
   next = place 10 text at (length text) + 1
 
-  passed-as : (s : Section) (n : ℕ) → sectionAt text at ≡ s → Refuses t (lineAt text at) n → n ≡ 0 → Passed s t (split 9 (lineAt text at))
+  pub passed-as : (s : Section) (n : ℕ) → sectionAt text at ≡ s → Refuses t (lineAt text at) n → n ≡ 0 → Passed s t (split 9 (lineAt text at))
   passed-as s n e r z = subst (λ (k : Section). Passed k t (split 9 (lineAt text at))) e (line-passed t (lineAt text at) n r z)
 
   stored-as : (s : Section) → sectionAt text at ≡ s → storedIn (sectionAt text at) t (split 9 (lineAt text at)) ≡ storedIn s t (split 9 (lineAt text at))

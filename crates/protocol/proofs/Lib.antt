@@ -3,4 +3,7 @@ pub mod Steps
 pub mod Passed
 pub mod Kept
 pub mod Going
+pub mod Leaving
+pub mod Lines
 pub mod Whole
+pub mod Protocol

@@ -46,6 +46,10 @@ Stage state text at t = (t .«cell_count» ≡ 0) × TooLate message text at t �
 Stage cell text at t = TooLate message text at t × TooLate event text at t × TooLate state text at t
 Stage unknown text at t = length text ≤ at
 
+-- As far as this line, which starts at this place; or refused there.
+abbrev pub progress : ℕ → ℕ → ℕ → Tables → Progress
+progress number line at t = record { number = number; line = line; at = at; tables = t }
+
 -- Reading on from line `line`, at the place `at`, with t: as far as r, or refused there. Then the next stage is reached.
 pub record Went (text : List ℕ) (at line : ℕ) (t : Tables) (next : Section) (r : Progress) : Type 0 where
   pub on : r .number ≡ 0 → readLines line (lines (drop at text)) t ≡ readLines (r .line) (lines (drop (r .at) text)) (r .tables)

@@ -1,6 +1,6 @@
 -- Each contract of this crate leaves one answer.
 use Prim.Native.Nat.{ℕ}
-use mathlib.Core.Path.{_≡_, refl, sym, ap, _∙_}
+use mathlib.Core.Path.{_≡_, refl, sym, _∙_}
 use mathlib.Core.Bool.{Bool, true, false}
 use mathlib.Core.List.{List}
 use lib.ListN.{replicate}
@@ -19,7 +19,7 @@ use Rattle.records.specs.declared.MessageLine.{MessageLine}
 use Rattle.records.specs.declared.EventLine.{EventLine}
 use Rattle.records.specs.declared.StateLine.{StateLine}
 use Rattle.records.specs.Line.{field, says, messageOf, eventOf, stateOf}
-use Rattle.records.specs.Told.{Refuses, OnlyMessages, MessageTold, MessagesEvents, EventTold, States, StateTold}
+use Rattle.records.specs.Told.{OnlyMessages, MessageTold, MessagesEvents, EventTold, States, StateTold}
 use Rattle.records.specs.Found.{foundKind, foundController, foundStability, Misplaced}
 use Rattle.records.proofs.Numbers.{refuses-one}
 

@@ -8,7 +8,7 @@ use lib.Dec.{eqb}
 use borrow.Author.Tests.{ne-eqb, eqb-true}
 use Rattle.text.specs.Parts.{split}
 use Rattle.papers.specs.declared.Refusal.{Refusal}
-use Rattle.papers.specs.Checks.{Check, check, refusal, none, pickRefusal, firstOf}
+use Rattle.papers.specs.Checks.{Check, refusal, none, pickRefusal, firstOf}
 use Rattle.papers.proofs.Checks.{first-given, first-passed}
 use Rattle.tables.specs.declared.Tables.{Tables}
 use Rattle.records.specs.Line.{Line, Section, sectionOf}

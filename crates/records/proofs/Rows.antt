@@ -1,6 +1,6 @@
 -- A line that declares a name: its number from what is tested, and what is then told of it.
-use Prim.Native.Nat.{ℕ, _+_, _≤_}
-use mathlib.Core.Path.{_≡_, refl, sym, ap, ap₂, _∙_}
+use Prim.Native.Nat.{ℕ, _+_}
+use mathlib.Core.Path.{_≡_, sym, ap, ap₂, _∙_}
 use mathlib.Core.Bool.{Bool, true, false, not, _||_, cond, or-false}
 use mathlib.Core.List.{List}
 use native.Mathlib.Omega.{arith}
@@ -23,7 +23,7 @@ use Rattle.names.specs.Names.{messageNamed, eventNamed, stateNamed, messageAt, 
 use Rattle.records.specs.declared.MessageLine.{MessageLine}
 use Rattle.records.specs.declared.EventLine.{EventLine}
 use Rattle.records.specs.declared.StateLine.{StateLine}
-use Rattle.records.specs.Line.{Line, field, says, Section, message, event, state, sectionOf, kindOf, controllerOf, stabilityOf, messageOf, eventOf, stateOf}
+use Rattle.records.specs.Line.{Line, field, says, Section, message, event, state, kindOf, controllerOf, stabilityOf, messageOf, eventOf, stateOf}
 use Rattle.records.specs.Checks.{shaped, laterRead, badName, twice, full}
 use Rattle.records.specs.Told.{Refuses, OnlyMessages, MessageTold, MessagesEvents, EventTold, States, StateTold}
 use Rattle.records.specs.Found.{messageDeclared, eventDeclared, stateDeclared}

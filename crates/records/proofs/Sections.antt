@@ -2,7 +2,7 @@
 use Prim.Native.Nat.{ℕ}
 use mathlib.Core.Path.{_≡_, refl, sym, ap, subst, _∙_}
 use mathlib.Core.Bool.{Bool, true, false, not, cond}
-use mathlib.Core.List.{List, []}
+use mathlib.Core.List.{List}
 use Rattle.text.specs.Parts.{split, sameText}
 use Rattle.text.specs.Words.{messageWord, eventWord, stateWord, cellWord}
 use Rattle.text.proofs.Parts.{same-true}

@@ -1,14 +1,14 @@
 -- Each refusal of a line is given only under its row of the table, and only where no smaller number is.
 use Prim.Native.Nat.{ℕ, zero, suc, _+_, _<_}
-use mathlib.Core.Path.{_≡_, refl, sym, ap, subst, _∙_}
-use mathlib.Core.Bool.{Bool, true, false, not}
+use mathlib.Core.Path.{_≡_, refl, ap, subst}
+use mathlib.Core.Bool.{true, false}
 use mathlib.Core.List.{List, [], _∷_}
 use native.Mathlib.Omega.{arith}
 use lib.ListN.{length}
 use borrow.Author.Tests.{not-true}
 use Rattle.papers.specs.declared.Refusal.{Refusal}
 use Rattle.papers.specs.Checks.{Check, firstOf}
-use Rattle.papers.proofs.Checks.{row, FirstGiven, ToldBy, only-given}
+use Rattle.papers.proofs.Checks.{row, FirstGiven, only-given}
 use Rattle.tables.specs.declared.Tables.{Tables}
 use Rattle.records.specs.Line.{Line, Section, sectionOf}
 use Rattle.records.specs.Checks.{shaped, laterRead, badName, notKnown, twice, full, stallInStable, conflict, sectionChecks, lineChecks, lineRefusal}

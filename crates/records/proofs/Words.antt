@@ -16,19 +16,15 @@ use Rattle.tables.specs.declared.Controller.{Controller}
 use Rattle.tables.specs.declared.Controller.the-variants.{Cache, Dir}
 use Rattle.tables.specs.declared.Stability.{Stability}
 use Rattle.tables.specs.declared.Stability.the-variants.{Stable, Transient}
-use Rattle.records.specs.declared.FoundKind.{FoundKind}
 use Rattle.records.specs.declared.FoundKind.the-variants.{Is as IsKind, Nothing as NoKind}
-use Rattle.records.specs.declared.FoundController.{FoundController}
 use Rattle.records.specs.declared.FoundController.the-variants.{Is as IsController, Nothing as NoController}
-use Rattle.records.specs.declared.FoundStability.{FoundStability}
 use Rattle.records.specs.declared.FoundStability.the-variants.{Is as IsStability, Nothing as NoStability}
-use Rattle.records.specs.declared.StateWords.{StateWords}
 use Rattle.records.specs.declared.StateWords.the-variants.{Are as StateAre, Nothing as NoState}
 use Rattle.records.specs.Line.{Line, field, message, event, state, isKind, kindOf, isController, controllerOf, isStability, stabilityOf}
 use Rattle.records.specs.Checks.{shaped}
 use Rattle.records.specs.Told.{FieldsAre}
 use Rattle.records.specs.Found.{foundKind, foundController, foundStability, messageShape, stateShape}
-use Rattle.records.proofs.Fields.{few, some, counted, many}
+use Rattle.records.proofs.Fields.{few, counted, many}
 
 -- ---- one field
 

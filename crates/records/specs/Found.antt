@@ -20,7 +20,7 @@ use Rattle.records.specs.declared.FoundStability.{FoundStability}
 use Rattle.records.specs.declared.FoundStability.the-variants.{Is as IsStability, Nothing as NoStability}
 use Rattle.records.specs.declared.StateWords.{StateWords}
 use Rattle.records.specs.declared.StateWords.the-variants.{Are as StateAre, Nothing as NoState}
-use Rattle.records.specs.Line.{Line, field, Section, message, event, state, unknown, sectionOf, isKind, kindOf, isController, controllerOf, isStability, stabilityOf}
+use Rattle.records.specs.Line.{Line, field, message, state, unknown, sectionOf, isKind, kindOf, isController, controllerOf, isStability, stabilityOf}
 use Rattle.records.specs.Checks.{shaped, laterRead}
 use Rattle.records.specs.Told.{Refuses}
 

@@ -1,8 +1,8 @@
 // One line of a protocol text: how it is refused, and what it stands for.
 ghost use mathlib.Core.Path.{_≡_};
+ghost use mathlib.Core.Bool.{true, false, cond};
 ghost use Prim.Native.Nat.{_<_, _≤_};
 ghost use Rattle.text.specs.Parts.{split};
-ghost use mathlib.Core.Bool.{true, false, cond};
 ghost use Rattle.text.specs.Name.{nameRule, nameOf};
 ghost use Rattle.text.specs.Words.{messageWord, eventWord, stateWord, cellWord};
 ghost use Rattle.tables.specs.Tables.{noMessage, noEvent, noState};

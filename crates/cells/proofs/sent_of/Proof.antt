@@ -1,8 +1,8 @@
 -- `cells::sent_of` meets its contract.
-use Prim.Native.Nat.{ℕ, _+_, _-_, _≤_}
-use mathlib.Core.Path.{_≡_, refl, sym, ap, _∙_}
+use Prim.Native.Nat.{ℕ, _-_, _≤_}
+use mathlib.Core.Path.{refl, sym, ap, _∙_}
 use mathlib.Core.List.{List, []}
-use lib.ListN.{length, take, length-drop}
+use lib.ListN.{take, length-drop}
 use lib.Seq.{getD-drop}
 use Rattle.text.specs.Parts.{split, firstIndex}
 use Rattle.names.specs.Names.{messageNamed, foundMessage}

@@ -1,5 +1,5 @@
 -- `cells::shape_of` meets its contract.
-use mathlib.Core.Path.{_≡_, sym, _∙_}
+use mathlib.Core.Path.{sym, _∙_}
 use Rattle.text.specs.Parts.{split}
 use Rattle.records.proofs.Fields.{counted}
 use Rattle.cells.proofs.Shapes.{count-long, too-short, too-long, no-controller, five-stall, five-other, more-go, more-other}
