@@ -9,10 +9,12 @@
 //! sides of it. Times are those that the thread had a processor. Under an
 //! emulator they are those of translated code: trust the ratios of x86-64.
 
+mod measure;
 mod random;
 mod second;
 mod zeveltoren;
 
+use measure::{median, thread_time};
 use random::{Random, Tables};
 
 /// What we aim at: this many times the fast variant, and so many bytes.
@@ -126,28 +128,6 @@ fn plain(tables: &Tables, out: &mut [u8]) -> u64 {
 
 const VARIANTS: [Variant; 3] = [library, fast, plain];
 
-/// C's time, as Linux has it on machines of 64 bits.
-#[repr(C)]
-struct Timespec {
-    seconds: i64,
-    nanoseconds: i64,
-}
-
-extern "C" {
-    fn clock_gettime(clock: i32, time: *mut Timespec) -> i32;
-}
-
-/// Linux's clock of the time that this thread has run.
-const THREAD_TIME: i32 = 3;
-
-/// Nanoseconds that this thread has run. Waiting for a processor is left out.
-fn thread_time() -> u128 {
-    let mut time = Timespec { seconds: 0, nanoseconds: 0 };
-    let status = unsafe { clock_gettime(THREAD_TIME, &mut time) };
-    assert_eq!(status, 0, "no clock of the thread's time");
-    time.seconds as u128 * 1_000_000_000 + time.nanoseconds as u128
-}
-
 /// Nanoseconds a call, over all inputs `times` times. The sum keeps the
 /// compiler from leaving calls out.
 fn time(variant: Variant, inputs: &[Tables], times: usize) -> (f64, u64) {
@@ -167,11 +147,6 @@ fn times_for(variant: Variant, inputs: &[Tables]) -> usize {
     let (once, _) = time(variant, inputs, 1);
     let whole = once as u128 * inputs.len() as u128;
     (ROUND_NANOSECONDS / whole.max(1)).clamp(1, 100_000) as usize
-}
-
-fn median(mut figures: Vec<f64>) -> f64 {
-    figures.sort_by(|a, b| a.partial_cmp(b).unwrap());
-    figures[figures.len() / 2]
 }
 
 /// A line of the table: times of library, fast and plain variant, and the

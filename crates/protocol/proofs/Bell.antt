@@ -1,5 +1,4 @@
 -- Bell's text is accepted, and reads to exactly the cells that the proved table has for Bell.
-use Prim.Native.Nat.{ℕ}
 use mathlib.Core.Path.{_≡_, refl}
 use native.Mathlib.Decide.{ℕ-discrete}
 use mathlib.Core.Bool.{decide}

@@ -1,13 +1,13 @@
 -- A section's loop: what holds whenever its test is reached, and how each line carries it on.
-use Prim.Native.Nat.{ℕ, suc, _+_, _≤_, _<_}
-use mathlib.Core.Path.{_≡_, refl, sym, ap, subst, _∙_}
-use mathlib.Core.Bool.{Bool, true, false, not}
-use mathlib.Core.List.{List, [], _∷_}
+use Prim.Native.Nat.{ℕ, _+_, _<_}
+use mathlib.Core.Path.{_≡_, sym, ap, subst, _∙_}
+use mathlib.Core.Bool.{false}
+use mathlib.Core.List.{List}
 use native.Mathlib.Omega.{arith}
 use lib.ListN.{length, drop}
-use lib.Dec.{ltb, leb}
-use borrow.Author.Tests.{lt-ltb, le-leb, leb-false}
-use Rattle.text.specs.Parts.{part, place, split, lines}
+use lib.Dec.{leb}
+use borrow.Author.Tests.{lt-ltb, leb-false}
+use Rattle.text.specs.Parts.{place, split, lines}
 use Rattle.papers.specs.Checks.{refusal}
 use Rattle.papers.proofs.Walk.{walk-next}
 use Rattle.tables.specs.declared.Tables.{Tables}
@@ -17,10 +17,10 @@ use Rattle.tables.specs.declared.StateRow.{StateRow}
 use Rattle.tables.specs.declared.Cell.{Cell}
 use Rattle.tables.specs.Tables.{withMessage, withEvent, withState, withCell}
 use Rattle.tables.specs.Cells.{CellOk}
-use Rattle.records.specs.Line.{Section, message, event, state, cell, unknown, sectionOf, messageOf, eventOf, stateOf, cellOf}
+use Rattle.records.specs.Line.{Section, message, event, state, cell, messageOf, eventOf, stateOf, cellOf}
 use Rattle.records.specs.Told.{Refuses}
 use Rattle.protocol.specs.Reading.{refused, storedIn, readLines}
-use Rattle.protocol.specs.Sections.{Kept, Placed, lineAt, sectionAt, TooLate, Stage}
+use Rattle.protocol.specs.Sections.{Kept, Placed, lineAt, sectionAt, Stage}
 use Rattle.protocol.proofs.Steps.{step-on, step-bad}
 use Rattle.protocol.proofs.Passed.{Passed, line-passed}
 use Rattle.protocol.proofs.Kept.{kept-message, kept-event, kept-state, kept-cell}
@@ -32,7 +32,7 @@ pub record Going (s : Section) (text : List ℕ) (from from-line : ℕ) (t₀ : 
   pub placed : Placed text at line
   pub stage : Stage s text at t
 
-below : (a b : ℕ) → leb a b ≡ false → b < a
+pub below : (a b : ℕ) → leb a b ≡ false → b < a
 below a b e = omega (arith, leb-false a b e)
 
 module _ (s : Section) (text : List ℕ) (from from-line : ℕ) (t₀ : Tables) (at line : ℕ) (t : Tables) (g : Going s text from from-line t₀ at line t) (h : at < length text) where

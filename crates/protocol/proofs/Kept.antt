@@ -2,14 +2,14 @@
 use Prim.Native.Nat.{_<_}
 use mathlib.Core.Path.{_∙_}
 use native.Mathlib.Omega.{arith}
-use lib.ListN.{length, length-replicate, length-set}
+use lib.ListN.{length-replicate, length-set}
 use Rattle.tables.specs.declared.MessageRow.{MessageRow}
 use Rattle.tables.specs.declared.EventRow.{EventRow}
 use Rattle.tables.specs.declared.StateRow.{StateRow}
 use Rattle.tables.specs.declared.Cell.{Cell}
 use Rattle.tables.specs.declared.Tables.{Tables}
 use Rattle.tables.specs.Tables.{noCell, clearedTables, withMessage, withEvent, withState, withCell}
-use Rattle.tables.specs.Cells.{CellOk, TablesOk}
+use Rattle.tables.specs.Cells.{CellOk}
 use Rattle.tables.proofs.Stored.{cleared-past, past-message, past-event, past-state, past-cell, ok-cleared, ok-message, ok-event, ok-state, ok-cell}
 use Rattle.protocol.specs.Sections.{Kept}
 

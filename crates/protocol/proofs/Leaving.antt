@@ -1,108 +1,53 @@
 -- Leaving a section's loop: at a line of another section, at a refused line, or at the end of the text.
-use Prim.Native.Nat.{ℕ, _+_, _-_, _≤_, _<_}
-use mathlib.Core.Path.{_≡_, refl, sym, ap, subst, _∙_}
+use Prim.Native.Nat.{ℕ, _≤_, _<_}
+use mathlib.Core.Path.{_≡_, refl, sym, subst}
 use mathlib.Core.Bool.{Bool, true, false}
-use mathlib.Core.List.{List, [], _∷_}
+use mathlib.Core.List.{List}
 use native.Mathlib.Omega.{arith}
 use lib.ListN.{length, drop}
-use Rattle.text.specs.Parts.{part, place, split, lines}
+use Rattle.text.specs.Parts.{lines}
 use Rattle.text.specs.Words.{messageWord, eventWord, stateWord, cellWord}
 use Rattle.papers.specs.Checks.{refusal}
 use Rattle.tables.specs.declared.Tables.{Tables}
 use Rattle.records.specs.Line.{Line, says, Section, message, event, state, cell, unknown, pickSection, sectionOf}
 use Rattle.protocol.specs.declared.Progress.{Progress}
 use Rattle.protocol.specs.Reading.{refused, readLines}
-use Rattle.protocol.specs.Sections.{Kept, Placed, lineAt, sectionAt, TooLate, Stage, progress, Went}
+use Rattle.protocol.specs.Sections.{sectionAt, TooLate, Stage, progress, Went}
 use Rattle.protocol.proofs.Going.{Going}
 
--- ---- a line whose first field is not this word is not of this section
+-- ---- a line whose first field is not a section's word is not of that section
 
 abbrev pickOf : Bool → Bool → Bool → Bool → Section
 pickOf a b c d = pickSection a message (pickSection b event (pickSection c state (pickSection d cell unknown)))
 
-abbrev isMessage : Section → Bool
-isMessage message = true
-isMessage event = false
-isMessage state = false
-isMessage cell = false
-isMessage unknown = false
+-- Which of the four a section is picked by.
+abbrev pub pickedBy : Section → Bool → Bool → Bool → Bool → Bool
+pickedBy message a b c d = a
+pickedBy event a b c d = b
+pickedBy state a b c d = c
+pickedBy cell a b c d = d
+pickedBy unknown a b c d = true
 
-abbrev isEvent : Section → Bool
-isEvent message = false
-isEvent event = true
-isEvent state = false
-isEvent cell = false
-isEvent unknown = false
+picked-by : (a b c d : Bool) → pickedBy (pickOf a b c d) a b c d ≡ true
+picked-by true b c d = refl
+picked-by false true c d = refl
+picked-by false false true d = refl
+picked-by false false false true = refl
+picked-by false false false false = refl
 
-abbrev isState : Section → Bool
-isState message = false
-isState event = false
-isState state = true
-isState cell = false
-isState unknown = false
+-- The line has the word of this section.
+abbrev pub saysOf : Section → Line → Bool
+saysOf s f = pickedBy s (says f 0 messageWord) (says f 0 eventWord) (says f 0 stateWord) (says f 0 cellWord)
 
-abbrev isCell : Section → Bool
-isCell message = false
-isCell event = false
-isCell state = false
-isCell cell = true
-isCell unknown = false
+section-says : (f : Line) → saysOf (sectionOf f) f ≡ true
+unfolding sectionOf
+section-says f = picked-by (says f 0 messageWord) (says f 0 eventWord) (says f 0 stateWord) (says f 0 cellWord)
 
 differ : (a : Bool) → a ≡ false → a ≡ true → ⊥
 differ a e q = let z : _≡_ {A = ℕ} 0 1 = cc in omega arith
 
-pick-message : (b c d : Bool) → isMessage (pickOf false b c d) ≡ false
-pick-message true c d = refl
-pick-message false true d = refl
-pick-message false false true = refl
-pick-message false false false = refl
-
-pick-event : (a c d : Bool) → isEvent (pickOf a false c d) ≡ false
-pick-event true c d = refl
-pick-event false true d = refl
-pick-event false false true = refl
-pick-event false false false = refl
-
-pick-state : (a b d : Bool) → isState (pickOf a b false d) ≡ false
-pick-state true b d = refl
-pick-state false true d = refl
-pick-state false false true = refl
-pick-state false false false = refl
-
-pick-cell : (a b c : Bool) → isCell (pickOf a b c false) ≡ false
-pick-cell true b c = refl
-pick-cell false true c = refl
-pick-cell false false true = refl
-pick-cell false false false = refl
-
-module _ (f : Line) where
-  pub no-message-line : says f 0 messageWord ≡ false → sectionOf f ≡ message → ⊥
-  unfolding sectionOf
-  no-message-line e q =
-      differ (isMessage (sectionOf f))
-      (ap (λ (b : Bool). isMessage (pickOf b (says f 0 eventWord) (says f 0 stateWord) (says f 0 cellWord))) e
-      ∙ pick-message (says f 0 eventWord) (says f 0 stateWord) (says f 0 cellWord)) (ap isMessage q)
-
-  pub no-event-line : says f 0 eventWord ≡ false → sectionOf f ≡ event → ⊥
-  unfolding sectionOf
-  no-event-line e q =
-      differ (isEvent (sectionOf f))
-      (ap (λ (b : Bool). isEvent (pickOf (says f 0 messageWord) b (says f 0 stateWord) (says f 0 cellWord))) e
-      ∙ pick-event (says f 0 messageWord) (says f 0 stateWord) (says f 0 cellWord)) (ap isEvent q)
-
-  pub no-state-line : says f 0 stateWord ≡ false → sectionOf f ≡ state → ⊥
-  unfolding sectionOf
-  no-state-line e q =
-      differ (isState (sectionOf f))
-      (ap (λ (b : Bool). isState (pickOf (says f 0 messageWord) (says f 0 eventWord) b (says f 0 cellWord))) e
-      ∙ pick-state (says f 0 messageWord) (says f 0 eventWord) (says f 0 cellWord)) (ap isState q)
-
-  pub no-cell-line : says f 0 cellWord ≡ false → sectionOf f ≡ cell → ⊥
-  unfolding sectionOf
-  no-cell-line e q =
-      differ (isCell (sectionOf f))
-      (ap (λ (b : Bool). isCell (pickOf (says f 0 messageWord) (says f 0 eventWord) (says f 0 stateWord) b)) e
-      ∙ pick-cell (says f 0 messageWord) (says f 0 eventWord) (says f 0 stateWord)) (ap isCell q)
+pub not-in : (s : Section) (f : Line) → saysOf s f ≡ false → sectionOf f ≡ s → ⊥
+not-in s f e q = differ (saysOf s f) e (subst (λ (x : Section). saysOf x f ≡ true) q (section-says f))
 
 -- ---- to the next stage
 

@@ -7,3 +7,12 @@ pub mod Leaving
 pub mod Lines
 pub mod Whole
 pub mod Protocol
+pub mod Determined
+pub mod KeptLines
+pub mod Why
+pub mod Accepted
+pub mod WrittenText
+pub mod WrittenFields
+pub mod WrittenCells
+pub mod WrittenRecords
+pub mod SameText

@@ -1,23 +1,21 @@
 -- One line of each section, as the code tells of it.
-use Prim.Native.Nat.{ℕ, _+_, _-_, _≤_, _<_}
+use Prim.Native.Nat.{ℕ, _+_, _≤_, _<_}
 use mathlib.Core.Path.{_≡_, refl, sym, ap, subst, _∙_}
 use mathlib.Core.Bool.{Bool, true, false, cond}
-use mathlib.Core.List.{List, [], _∷_}
+use mathlib.Core.List.{List}
 use native.Mathlib.Omega.{arith}
-use lib.ListN.{length, drop}
-use lib.Dec.{leb}
+use lib.ListN.{length}
 use borrow.Author.Tests.{leb-false}
-use Rattle.text.specs.Parts.{part, place, split, lines}
+use Rattle.text.specs.Parts.{part, place, split}
 use Rattle.text.specs.Words.{messageWord, eventWord, stateWord, cellWord}
 use Rattle.papers.proofs.Walk.{walk-next}
 use Rattle.tables.specs.declared.Tables.{Tables}
-use Rattle.tables.specs.declared.MessageRow.{MessageRow}
 use Rattle.tables.specs.Tables.{withMessage, withEvent, withState, withCell}
 use Rattle.records.specs.declared.MessageLine.{MessageLine}
 use Rattle.records.specs.declared.EventLine.{EventLine}
 use Rattle.records.specs.declared.StateLine.{StateLine}
 use Rattle.records.specs.Line.{Line, says, Section, message, event, state, cell, unknown, sectionOf, messageOf, eventOf, stateOf, cellOf}
-use Rattle.records.specs.Told.{Refuses, OnlyMessages, MessageTold, MessagesEvents, EventTold, States, StateTold}
+use Rattle.records.specs.Told.{Refuses, MessageTold, EventTold, StateTold}
 use Rattle.records.specs.Checks.{shaped, laterRead}
 use Rattle.records.specs.Found.{misplacedNumber, Misplaced}
 use Rattle.cells.specs.declared.CellLine.{CellLine}
@@ -25,9 +23,9 @@ use Rattle.cells.specs.Told.{Declared, CellTold}
 use Rattle.cells.proofs.InRange.{cell-ok}
 use Rattle.records.proofs.Sections.{a-message, an-event, a-state, a-cell}
 use Rattle.protocol.specs.declared.Progress.{Progress}
-use Rattle.protocol.specs.Sections.{lineAt, sectionAt, Stage, progress, Went}
+use Rattle.protocol.specs.Sections.{lineAt, sectionAt, progress, Went}
 use Rattle.protocol.proofs.Going.{Going, going-bad, going-message, going-event, going-state, going-cell, passed-as}
-use Rattle.protocol.proofs.Leaving.{Leaves, no-message-line, no-event-line, no-state-line, no-cell-line, leave-message, leave-event, leave-state, went-on, went-bad}
+use Rattle.protocol.proofs.Leaving.{Leaves, saysOf, not-in, went-bad}
 
 -- The line ends at e; and what its first field says.
 module _ (text : List ℕ) (at e : ℕ) (q : e ≡ place 10 text at (length text)) where
@@ -38,14 +36,8 @@ module _ (text : List ℕ) (at e : ℕ) (q : e ≡ place 10 text at (length text
   pub of-line : (P : List ℕ → Type 0) → P (part text at e) → P (lineAt text at)
   of-line P p = subst P the-line p
 
-  pub not-message : says (split 9 (part text at e)) 0 messageWord ≡ false → Leaves message text at
-  not-message n h = no-message-line (split 9 (lineAt text at)) (of-line (λ (l : List ℕ). says (split 9 l) 0 messageWord ≡ false) n)
-
-  pub not-event : says (split 9 (part text at e)) 0 eventWord ≡ false → Leaves event text at
-  not-event n h = no-event-line (split 9 (lineAt text at)) (of-line (λ (l : List ℕ). says (split 9 l) 0 eventWord ≡ false) n)
-
-  pub not-state : says (split 9 (part text at e)) 0 stateWord ≡ false → Leaves state text at
-  not-state n h = no-state-line (split 9 (lineAt text at)) (of-line (λ (l : List ℕ). says (split 9 l) 0 stateWord ≡ false) n)
+  pub not-of : (s : Section) → saysOf s (split 9 (part text at e)) ≡ false → Leaves s text at
+  not-of s n h = not-in s (split 9 (lineAt text at)) (of-line (λ (l : List ℕ). saysOf s (split 9 l) ≡ false) n)
 
 -- what the loop's sums need
 pub record Room (text : List ℕ) (at line e : ℕ) : Type 0 where
@@ -202,7 +194,7 @@ module _ (text : List ℕ) (from first : ℕ) (t₀ : Tables) (at line : ℕ) (t
       by-section message k = late message k (g .stage .0 h k)
       by-section event k = late event k (g .stage .1 h k)
       by-section state k = late state k (g .stage .2 h k)
-      by-section cell k = absurd (no-cell-line (split 9 (lineAt text at)) (of-line text at e q (λ (l : List ℕ). says (split 9 l) 0 cellWord ≡ false) w) k)
+      by-section cell k = absurd (not-in cell (split 9 (lineAt text at)) (of-line text at e q (λ (l : List ℕ). says (split 9 l) 0 cellWord ≡ false) w) k)
       by-section unknown k = here .none k t
 
       pub misplaced-bad : (next : Section) (p : Progress) → p ≡ progress n line at t → Went text from first t₀ next p

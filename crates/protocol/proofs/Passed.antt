@@ -1,13 +1,11 @@
 -- A line that is not refused passes each of the eight checks.
-use Prim.Native.Nat.{ℕ, _≤_, _<_}
-use mathlib.Core.Path.{_≡_, refl, sym, ap, subst, _∙_}
+use Prim.Native.Nat.{ℕ, _<_}
+use mathlib.Core.Path.{_≡_, refl, sym, ap, _∙_}
 use mathlib.Core.Bool.{Bool, true, false, not}
-use mathlib.Core.List.{List, [], _∷_}
+use mathlib.Core.List.{List}
 use native.Mathlib.Omega.{arith}
-use lib.ListN.{length}
-use lib.Dec.{eqb, leb}
 use Rattle.papers.specs.declared.Refusal.{Refusal}
-use Rattle.papers.specs.Checks.{Check, check, firstOf, none}
+use Rattle.papers.specs.Checks.{firstOf}
 use Rattle.papers.proofs.Checks.{passed-by}
 use Rattle.tables.specs.declared.Tables.{Tables}
 use Rattle.text.specs.Parts.{split}
@@ -32,7 +30,7 @@ not-not false e = sym e
 not-zero : (n : ℕ) → 0 < n → n ≡ 0 → ⊥
 not-zero n h e = omega arith
 
-passed : (s : Section) (t : Tables) (k : ℕ) (f : Line) → firstOf (sectionChecks s t k f) .number ≡ 0 → Passed s t f
+pub passed : (s : Section) (t : Tables) (k : ℕ) (f : Line) → firstOf (sectionChecks s t k f) .number ≡ 0 → Passed s t f
 passed s t k f e =
     let p4 = passed-by _ _ (not-zero 4 (omega arith)) e in
     let p5 = passed-by _ _ (not-zero 5 (omega arith)) (p4 .1) in

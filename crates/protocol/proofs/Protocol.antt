@@ -1,18 +1,17 @@
 -- The whole reading: the opening, then section after section, to the end of the text.
-use Prim.Native.Nat.{ℕ, _+_, _≤_}
+use Prim.Native.Nat.{ℕ, _+_}
 use mathlib.Core.Path.{_≡_, refl, sym, ap, subst, _∙_}
-use mathlib.Core.Bool.{Bool, true, false}
+use mathlib.Core.Bool.{Bool}
 use mathlib.Core.List.{List}
 use native.Mathlib.Omega.{arith}
 use lib.ListN.{length, drop}
-use lib.Dec.{eqb}
 use borrow.Author.Tests.{eq-eqb, ne-eqb}
 use Rattle.text.specs.Parts.{place, lines}
 use Rattle.text.specs.Words.{protocolHeader}
 use Rattle.papers.specs.declared.Refusal.{Refusal}
 use Rattle.papers.specs.Checks.{refusal}
 use Rattle.papers.specs.Opening.{openingOf}
-use Rattle.papers.proofs.OpeningLaws.{Opened, opened}
+use Rattle.papers.proofs.OpeningLaws.{opened}
 use Rattle.tables.specs.declared.Tables.{Tables}
 use Rattle.tables.specs.Tables.{clearedTables}
 use Rattle.records.specs.Line.{Section, message, unknown}

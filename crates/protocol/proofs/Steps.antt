@@ -1,16 +1,12 @@
 -- One step of the reading: the next line is refused, or it is stored and the reading goes on behind it.
 use Prim.Native.Nat.{ℕ, suc, _+_, _≤_, _<_}
-use mathlib.Core.Path.{_≡_, refl, sym, ap, subst, _∙_}
-use mathlib.Core.Bool.{Bool, true, false}
-use mathlib.Core.List.{List, [], _∷_}
-use native.Mathlib.Omega.{arith}
+use mathlib.Core.Path.{_≡_, refl, _∙_}
+use mathlib.Core.List.{List}
 use native.Mathlib.Numerals.{add-one}
 use lib.ListN.{length, drop}
-use lib.Dec.{eqb}
-use borrow.Author.Tests.{eq-eqb, ne-eqb}
-use Rattle.text.specs.Parts.{part, place, split, lines}
-use Rattle.papers.specs.declared.Refusal.{Refusal}
-use Rattle.papers.specs.Checks.{refusal, none}
+use borrow.Author.Tests.{ne-eqb}
+use Rattle.text.specs.Parts.{place, split, lines}
+use Rattle.papers.specs.Checks.{refusal}
 use Rattle.papers.specs.Lined.{Lined}
 use Rattle.papers.proofs.Walk.{walk-next, walk-end}
 use Rattle.tables.specs.declared.Tables.{Tables}
@@ -18,7 +14,7 @@ use Rattle.records.specs.Told.{tells, Refuses}
 use Rattle.records.specs.Checks.{lineRefusal}
 use Rattle.protocol.specs.declared.Reading.{Reading}
 use Rattle.protocol.specs.Sections.{lineAt}
-use Rattle.protocol.specs.Reading.{refused, accepted, unless, pickReading, stored, wholeRefusal, readLines}
+use Rattle.protocol.specs.Reading.{refused, accepted, unless, stored, wholeRefusal, readLines}
 
 -- what is told by a number
 unless-none : (n k : ℕ) (a : Reading) → n ≡ 0 → unless (tells n k) a ≡ a

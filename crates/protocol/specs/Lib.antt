@@ -1,3 +1,5 @@
 pub mod Reading
 pub mod Sections
 pub mod Bell
+pub mod Promises
+pub mod Written

@@ -1,10 +1,10 @@
 -- Reading a protocol text: lines one after the other, then what is asked of the whole.
-use Prim.Native.Nat.{ℕ, suc, _+_}
+use Prim.Native.Nat.{ℕ, suc, _+_, _*_, _%_}
 use mathlib.Core.Bool.{Bool, true, false, decide}
 use mathlib.Core.List.{List, [], _∷_}
 use lib.ListN.{drop}
 use lib.Dec.{eqb, ltb}
-use Rattle.rules.specs.Rules.{Cell, NoEntry}
+use Rattle.rules.specs.Rules.{Cell}
 use Rattle.rules.proofs.Entry.{no-entry?}
 use Rattle.text.specs.Parts.{split, lines, firstIndex}
 use Rattle.text.specs.Words.{protocolHeader}
@@ -82,3 +82,9 @@ unfoldable pub readProtocol : List ℕ → Reading
 readProtocol text =
     let body = readLines 2 (drop 1 (lines text)) clearedTables in
     unless (openingOf protocolHeader text) body
+
+-- ---- from a C host
+
+-- Bits 0 to 7 the refusal number, 0 where the text is accepted; 16 to 31 the line, the rest 0. (A text of at most 49,152 bytes has no line 65,536.)
+abbrev pub packed : Reading → ℕ
+packed r = r .number + r .line % 65536 * 65536

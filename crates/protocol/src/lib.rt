@@ -7,7 +7,7 @@ ghost use Rattle.text.specs.Words.{cellWord};
 ghost use Rattle.records.specs.Line.{says, message, event, state, cell, unknown};
 ghost use Rattle.records.specs.Told.{FieldsAre};
 ghost use Rattle.cells.specs.Told.{CellTold};
-ghost use Rattle.protocol.specs.Reading.{refused, accepted, unless, wholeRefusal, readProtocol};
+ghost use Rattle.protocol.specs.Reading.{packed, refused, accepted, unless, wholeRefusal, readProtocol};
 ghost use Rattle.protocol.specs.Sections.{Kept, Placed, Stage, progress, Went};
 use cells::CellLine;
 use tables::Tables;
@@ -242,4 +242,15 @@ pub fn read_protocol(text: &[u8]) -> Reading
         return refused_at(c.number, c.line);
     }
     finished(c.tables)
+}
+
+// The reading from a C host: whether a text is accepted, and else the refusal's number and line, packed into one number.
+#[no_mangle]
+pub extern "C" fn vn_check_protocol(text: &[u8]) -> u64
+    ensures { λ r. ⌜ r ≡ packed (readProtocol (now (text .entry))) ⌝ }
+{
+    let r = read_protocol(text);
+    let number = r.number as u64;
+    let line = r.line as u64;
+    number + line % 65536 * 65536
 }

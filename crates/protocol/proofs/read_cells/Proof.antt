@@ -2,17 +2,13 @@
 use Rattle.protocol.proofs.read_cells.Statement.{statement}
 use Rattle.protocol.proofs.read_cells.Tie as tie
 use Prim.Native.Nat.{_-_, _<_}
-use mathlib.Core.Path.{_≡_, refl, sym, ap, _∙_}
-use mathlib.Core.Bool.{true, false}
+use mathlib.Core.Path.{refl, sym, _∙_}
 use borrow.Author.Needs.{needs}
 use borrow.Author.Tests.{not-true, not-false}
 use native.Mathlib.Omega.{arith}
 use lib.ListN.{length}
-use Rattle.text.specs.Parts.{part, split}
-use Rattle.text.specs.Words.{cellWord}
 use Rattle.tables.specs.Tables.{withCell}
-use Rattle.records.specs.Line.{cell, unknown, says}
-use Rattle.records.specs.Told.{FieldsAre}
+use Rattle.records.specs.Line.{cell, unknown}
 use Rattle.protocol.proofs.Going.{Going}
 use Rattle.protocol.proofs.Leaving.{went-on}
 use Rattle.protocol.proofs.Lines.{Room, room, misplaced-bad, cell-bad, cell-room, cell-on}

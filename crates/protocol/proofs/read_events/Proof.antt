@@ -2,20 +2,16 @@
 use Rattle.protocol.proofs.read_events.Statement.{statement}
 use Rattle.protocol.proofs.read_events.Tie as tie
 use Prim.Native.Nat.{_-_, _<_}
-use mathlib.Core.Path.{_≡_, refl, sym, ap, _∙_}
-use mathlib.Core.Bool.{true, false}
+use mathlib.Core.Path.{refl, sym, _∙_}
 use borrow.Author.Needs.{needs}
 use borrow.Author.Tests.{not-true, not-false}
 use native.Mathlib.Omega.{arith}
 use lib.ListN.{length}
-use Rattle.text.specs.Parts.{part, split}
-use Rattle.text.specs.Words.{eventWord}
 use Rattle.tables.specs.Tables.{withEvent}
-use Rattle.records.specs.Line.{event, state, says}
-use Rattle.records.specs.Told.{FieldsAre}
+use Rattle.records.specs.Line.{event, state}
 use Rattle.protocol.proofs.Going.{Going}
 use Rattle.protocol.proofs.Leaving.{at-end, leave-event, went-on}
-use Rattle.protocol.proofs.Lines.{Room, room, not-event, event-bad, event-room, event-on}
+use Rattle.protocol.proofs.Lines.{Room, room, not-of, event-bad, event-room, event-on}
 
 abbrev Inv-loop : tie.InvT-loop
 Inv-loop text from first t₀ at₀ line₀ t16 t at line = Going event text from first t₀ at line t
@@ -64,7 +60,7 @@ returns c =
     let f = c .before .before .before .before .before .before .find in
     went-on event state (a .text .now) (a .from) (a .first) (a .given) (l .at) (l .line) (l .t) (l .inv)
     (leave-event (a .text .now) (l .at) (l .t) (l .inv .stage)
-    (not-event (a .text .now) (l .at) (f .result) (f .ensures) (sym (c .before .before .is-record .ensures) ∙ not-true (c .before .before .is-record .result) (c .before .if1 .taken))))
+    (not-of (a .text .now) (l .at) (f .result) (f .ensures) event (sym (c .before .before .is-record .ensures) ∙ not-true (c .before .before .is-record .result) (c .before .if1 .taken))))
     (c .reached .result) (c .reached .ensures)
 
 event-line-requires : tie.Need-event-line-requires Inv-loop μ-loop

@@ -2,20 +2,16 @@
 use Rattle.protocol.proofs.read_messages.Statement.{statement}
 use Rattle.protocol.proofs.read_messages.Tie as tie
 use Prim.Native.Nat.{_-_, _<_}
-use mathlib.Core.Path.{_≡_, refl, sym, ap, _∙_}
-use mathlib.Core.Bool.{true, false}
+use mathlib.Core.Path.{refl, sym, _∙_}
 use borrow.Author.Needs.{needs}
 use borrow.Author.Tests.{not-true, not-false}
 use native.Mathlib.Omega.{arith}
 use lib.ListN.{length}
-use Rattle.text.specs.Parts.{part, split}
-use Rattle.text.specs.Words.{messageWord}
 use Rattle.tables.specs.Tables.{withMessage}
-use Rattle.records.specs.Line.{message, event, says}
-use Rattle.records.specs.Told.{FieldsAre}
+use Rattle.records.specs.Line.{message, event}
 use Rattle.protocol.proofs.Going.{Going}
 use Rattle.protocol.proofs.Leaving.{at-end, leave-message, went-on}
-use Rattle.protocol.proofs.Lines.{Room, room, not-message, message-bad, message-room, message-on}
+use Rattle.protocol.proofs.Lines.{Room, room, not-of, message-bad, message-room, message-on}
 
 abbrev Inv-loop : tie.InvT-loop
 Inv-loop text from first t₀ at₀ line₀ t15 t at line = Going message text from first t₀ at line t
@@ -64,7 +60,7 @@ returns c =
     let f = c .before .before .before .before .before .before .find in
     went-on message event (a .text .now) (a .from) (a .first) (a .given) (l .at) (l .line) (l .t) (l .inv)
     (leave-message (a .text .now) (l .at) (l .t) (l .inv .stage)
-    (not-message (a .text .now) (l .at) (f .result) (f .ensures) (sym (c .before .before .is-record .ensures) ∙ not-true (c .before .before .is-record .result) (c .before .if1 .taken))))
+    (not-of (a .text .now) (l .at) (f .result) (f .ensures) message (sym (c .before .before .is-record .ensures) ∙ not-true (c .before .before .is-record .result) (c .before .if1 .taken))))
     (c .reached .result) (c .reached .ensures)
 
 message-line-requires : tie.Need-message-line-requires Inv-loop μ-loop

@@ -2,20 +2,16 @@
 use Rattle.protocol.proofs.read_states.Statement.{statement}
 use Rattle.protocol.proofs.read_states.Tie as tie
 use Prim.Native.Nat.{_-_, _<_}
-use mathlib.Core.Path.{_≡_, refl, sym, ap, _∙_}
-use mathlib.Core.Bool.{true, false}
+use mathlib.Core.Path.{refl, sym, _∙_}
 use borrow.Author.Needs.{needs}
 use borrow.Author.Tests.{not-true, not-false}
 use native.Mathlib.Omega.{arith}
 use lib.ListN.{length}
-use Rattle.text.specs.Parts.{part, split}
-use Rattle.text.specs.Words.{stateWord}
 use Rattle.tables.specs.Tables.{withState}
-use Rattle.records.specs.Line.{state, cell, says}
-use Rattle.records.specs.Told.{FieldsAre}
+use Rattle.records.specs.Line.{state, cell}
 use Rattle.protocol.proofs.Going.{Going}
 use Rattle.protocol.proofs.Leaving.{at-end, leave-state, went-on}
-use Rattle.protocol.proofs.Lines.{Room, room, not-state, state-bad, state-room, state-on}
+use Rattle.protocol.proofs.Lines.{Room, room, not-of, state-bad, state-room, state-on}
 
 abbrev Inv-loop : tie.InvT-loop
 Inv-loop text from first t₀ at₀ line₀ t15 t at line = Going state text from first t₀ at line t
@@ -64,7 +60,7 @@ returns c =
     let f = c .before .before .before .before .before .before .find in
     went-on state cell (a .text .now) (a .from) (a .first) (a .given) (l .at) (l .line) (l .t) (l .inv)
     (leave-state (a .text .now) (l .at) (l .t) (l .inv .stage)
-    (not-state (a .text .now) (l .at) (f .result) (f .ensures) (sym (c .before .before .is-record .ensures) ∙ not-true (c .before .before .is-record .result) (c .before .if1 .taken))))
+    (not-of (a .text .now) (l .at) (f .result) (f .ensures) state (sym (c .before .before .is-record .ensures) ∙ not-true (c .before .before .is-record .result) (c .before .if1 .taken))))
     (c .reached .result) (c .reached .ensures)
 
 state-line-requires : tie.Need-state-line-requires Inv-loop μ-loop

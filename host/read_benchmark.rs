@@ -1,0 +1,119 @@
+//! How fast the protocol reader is, beside the second program's plain reader,
+//! on a text at all limits, and how much stack it takes.
+//!
+//!   LIBS=protocol host/build run read_benchmark
+//!
+//! Both read the same text in the same run, in turn, and both are optimised.
+//! Figures are medians of several rounds, of the thread's own time. Under an
+//! emulator only the ratio says something.
+
+#![allow(dead_code)]
+
+mod limits;
+mod measure;
+mod second;
+mod zeveltoren_texts;
+
+use measure::{median, thread_time};
+
+/// What we aim at: this many times the plain reader, and so many bytes.
+const MOST_RATIO: f64 = 4.0;
+const MOST_STACK: usize = 262_144;
+
+const ROUNDS: usize = 15;
+const TIMES: usize = 4;
+
+/// Microseconds a reading. The sum keeps the compiler from leaving it out.
+fn time(reader: fn(&[u8]) -> u64, text: &[u8]) -> f64 {
+    let mut sum = 0_u64;
+    let start = thread_time();
+    for _ in 0..TIMES {
+        sum = sum.wrapping_add(reader(text));
+    }
+    let taken = (thread_time() - start) as f64;
+    assert_eq!(sum, 0, "the text is not accepted");
+    taken / TIMES as f64 / 1000.0
+}
+
+fn library(text: &[u8]) -> u64 {
+    zeveltoren_texts::check_protocol_packed(text)
+}
+
+fn plain(text: &[u8]) -> u64 {
+    match second::read_protocol(text) {
+        Ok(protocol) => protocol.message_names().len() as u64 - 32,
+        Err(refusal) => refusal.number,
+    }
+}
+
+#[cfg(target_arch = "x86_64")]
+mod stack {
+    use std::arch::asm;
+
+    extern "C" {
+        fn vn_check_protocol(text: *const u8, text_length: usize) -> u64;
+    }
+
+    const PAINT: u64 = 0xa5c3_96e1_78d2_b4f0;
+    const WORDS: usize = 131_072;
+
+    /// How many bytes below the caller's frame a reading writes to: it runs
+    /// on a painted stack of its own.
+    pub fn used(text: &[u8]) -> usize {
+        let mut painted = vec![PAINT; WORDS];
+        let top = painted.as_mut_ptr_range().end as usize & !15;
+        unsafe { call_on(top, text) };
+        let untouched = painted.iter().take_while(|word| **word == PAINT).count();
+        top - (painted.as_ptr() as usize + 8 * untouched)
+    }
+
+    unsafe fn call_on(top: usize, text: &[u8]) -> u64 {
+        let answer: u64;
+        asm!(
+            "mov r12, rsp",
+            "mov rsp, r13",
+            "call r15",
+            "mov rsp, r12",
+            in("rdi") text.as_ptr(),
+            in("rsi") text.len(),
+            out("r12") _,
+            in("r13") top,
+            in("r15") vn_check_protocol,
+            out("rax") answer,
+            clobber_abi("C"),
+        );
+        answer
+    }
+}
+
+#[cfg(target_arch = "x86_64")]
+fn print_stack(text: &[u8]) {
+    let used = stack::used(text);
+    println!("stack of a reading: {} bytes", used);
+    println!("at most {} bytes of stack: {}", MOST_STACK, kept(used <= MOST_STACK));
+}
+
+#[cfg(not(target_arch = "x86_64"))]
+fn print_stack(_text: &[u8]) {}
+
+fn kept(kept: bool) -> &'static str {
+    if kept {
+        "kept"
+    } else {
+        "MISSED"
+    }
+}
+
+fn main() {
+    let text = limits::full();
+    let mut rounds: Vec<[f64; 3]> = Vec::new();
+    for _ in 0..ROUNDS {
+        let (ours, theirs) = (time(library, &text), time(plain, &text));
+        rounds.push([ours, theirs, ours / theirs]);
+    }
+    let [ours, theirs, ratio] = [0, 1, 2].map(|i| median(rounds.iter().map(|r| r[i]).collect()));
+    println!("a text of {} bytes at all limits, median of {} rounds", text.len(), ROUNDS);
+    println!("library {:.0} microseconds, plain reader {:.0}: {:.2} times", ours, theirs, ratio);
+    println!("at most {} times the plain reader: {}", MOST_RATIO, kept(ratio <= MOST_RATIO));
+    print_stack(&text);
+}

@@ -1,0 +1,69 @@
+//! The protocol reader of the library against the second program's, through
+//! the exported call: refusal numbers and lines.
+
+#![allow(dead_code)]
+
+mod limits;
+mod random;
+mod second;
+mod zeveltoren_texts;
+
+use random::Random;
+
+/// What the second program says of a text.
+fn wanted(text: &[u8]) -> (u8, usize) {
+    match second::read_protocol(text) {
+        Ok(_) => (0, 0),
+        Err(refusal) => (refusal.number as u8, refusal.line as usize),
+    }
+}
+
+fn compare(text: &[u8]) {
+    assert_eq!(
+        zeveltoren_texts::check_protocol(text),
+        wanted(text),
+        "{}",
+        String::from_utf8_lossy(text)
+    );
+}
+
+fn seed() -> u64 {
+    let seed = std::env::var("SEED").ok().and_then(|text| text.parse().ok()).unwrap_or(20_261_115);
+    println!("seed {}", seed);
+    seed
+}
+
+#[test]
+fn texts_at_the_limits() {
+    let full = limits::full();
+    assert_eq!(full.len(), 49_152);
+    assert_eq!(zeveltoren_texts::check_protocol(&full), (0, 0));
+    for past in limits::one_more_of_each() {
+        compare(&past.text);
+    }
+}
+
+#[test]
+fn short_texts() {
+    for text in [&b""[..], b"\n", b"\n\n", b"vn-protocol\t1", b"vn-protocol\t1\n", b"vn-protocol\t1\n\n"] {
+        compare(text);
+    }
+}
+
+/// Whole and damaged: bytes, fields and lines changed, dropped, doubled,
+/// swapped, cut.
+#[test]
+fn random_texts() {
+    let mut random = Random::new(seed());
+    let mut accepted = 0;
+    for _ in 0..3_000 {
+        let mut text = random::protocol_text(&mut random);
+        for _ in 0..random.below(3) {
+            text = random::damage(&mut random, &text);
+        }
+        compare(&text);
+        accepted += usize::from(wanted(&text).0 == 0);
+    }
+    println!("{} of 3000 accepted", accepted);
+    assert!(accepted > 300 && accepted < 2_700);
+}
