@@ -1,9 +1,9 @@
 /*
  * Zeveltoren: how many virtual networks does a coherence protocol need?
  *
- * The calls that a C program may make. Link with -lrelations, on x86-64. The
- * library keeps no state, takes no memory but the stack, and calls nothing
- * but memcpy and memset: a call may be made from any thread at any time.
+ * The calls that a C program may make, on x86-64. The library keeps no state,
+ * takes no memory but the stack, and calls nothing but memcpy and memset: a
+ * call may be made from any thread at any time.
  */
 #ifndef ZEVELTOREN_H
 #define ZEVELTOREN_H
@@ -15,7 +15,7 @@
 extern "C" {
 #endif
 
-/* ---- The relations call ---- */
+/* ---- The relations call: link with -lrelations ---- */
 
 /* The most messages, and so the most bytes of an answer. */
 #define VN_MOST_MESSAGES 32
@@ -110,6 +110,25 @@ static inline void vn_set_pair(uint8_t *table, unsigned from, unsigned to)
 {
     table[VN_ROW_BYTES * from + to / 8] |= (uint8_t)(1u << to % 8);
 }
+
+/* ---- Reading a protocol text: link with -lprotocol ---- */
+
+/*
+ * Whether a protocol text is accepted, and if not why and where. Any bytes
+ * are answered.
+ *
+ *   bits  0 to  7  the refusal number, 1 to 13 of the paper; 0: accepted
+ *   bits 16 to 31  the line that the refusal tells, counted from 1; 0 where
+ *                  the whole text is meant
+ *   other bits     0
+ *
+ * What the caller owes: the pointer is good for as many bytes as the length
+ * says.
+ */
+uint64_t vn_check_protocol(const uint8_t *text, size_t text_length);
+
+/* Bits 16 to 31: the line that a refusal tells. */
+static inline unsigned vn_line(uint64_t answer) { return (unsigned)(answer >> 16 & 0xffff); }
 
 #ifdef __cplusplus
 }
