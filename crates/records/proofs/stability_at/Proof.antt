@@ -1,5 +1,6 @@
 -- `records::stability_at` meets its contract.
 use Rattle.records.proofs.Words.{says-stable, says-transient, says-no-stability}
+use mathlib.Core.Path.{sym, _∙_}
 use borrow.Author.Needs.{needs}
 use Rattle.records.proofs.stability_at.Statement.{statement}
 use Rattle.records.proofs.stability_at.Tie as tie
@@ -11,7 +12,7 @@ word-at-requires : tie.Need-word-at-requires
 word-at-requires c κs = search needs
 
 returns : tie.Need-returns
-returns c = says-stable _ (cc)
+returns c = says-stable _ (sym (c .before .word-at .ensures) ∙ c .if1 .taken)
 
 slice-aggregate-word-at-2 : tie.Need-slice-aggregate-word-at-2
 slice-aggregate-word-at-2 c = search needs
@@ -20,10 +21,10 @@ word-at-requires-2 : tie.Need-word-at-requires-2
 word-at-requires-2 c κs = search needs
 
 returns-2 : tie.Need-returns-2
-returns-2 c = says-transient _ (cc) (cc)
+returns-2 c = says-transient _ (sym (c .before .before .before .before .word-at .ensures) ∙ c .before .before .before .if1 .left) (sym (c .before .word-at2 .ensures) ∙ c .if2 .taken)
 
 returns-3 : tie.Need-returns-3
-returns-3 c = says-no-stability _ (cc) (cc)
+returns-3 c = says-no-stability _ (sym (c .before .before .before .before .word-at .ensures) ∙ c .before .before .before .if1 .left) (sym (c .before .word-at2 .ensures) ∙ c .if2 .left)
 
 pub stability-at-spec : {M : Type 1} → statement M
 stability-at-spec =
