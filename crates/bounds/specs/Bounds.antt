@@ -1,0 +1,13 @@
+-- How large the line of a refusal can be. A text of at most 49,152 bytes has at most that many lines;
+-- NO_END tells the line after the last end, and UNMATCHED the line after the last. So a line has its place in 16 bits.
+use Prim.Native.Nat.{ℕ, _≤_}
+use mathlib.Core.List.{List}
+use Rattle.tables.specs.declared.MessageRow.{MessageRow}
+use Rattle.mapping.specs.Reading.{readMapping}
+use Rattle.protocol.specs.Reading.{readProtocol}
+
+abbrev pub ProtocolLine : Type 0
+ProtocolLine = (text : List ℕ) → readProtocol text .line ≤ 49153
+
+abbrev pub MappingLine : Type 0
+MappingLine = (messages : List MessageRow) (text : List ℕ) → readMapping messages text .line ≤ 49153
