@@ -1,7 +1,12 @@
 -- How large the line of a refusal can be. A text of at most 49,152 bytes has at most that many lines;
 -- NO_END tells the line after the last end, and UNMATCHED the line after the last. So a line has its place in 16 bits.
-use Prim.Native.Nat.{ℕ, _≤_}
+use Prim.Native.Nat.{ℕ, _≤_, _<_}
+use mathlib.Core.Path.{_≡_}
+use mathlib.Core.Bool.{true}
 use mathlib.Core.List.{List}
+use lib.ListN.{getD}
+use Rattle.text.specs.Name.{nameRule, nameText}
+use Rattle.tables.specs.Tables.{noMessage}
 use Rattle.tables.specs.declared.MessageRow.{MessageRow}
 use Rattle.mapping.specs.Reading.{readMapping}
 use Rattle.protocol.specs.Reading.{readProtocol}
@@ -11,3 +16,9 @@ ProtocolLine = (text : List ℕ) → readProtocol text .line ≤ 49153
 
 abbrev pub MappingLine : Type 0
 MappingLine = (messages : List MessageRow) (text : List ℕ) → readMapping messages text .line ≤ 49153
+
+-- The name of each message of an accepted text keeps the name rule.
+abbrev pub NamesKept : Type 0
+NamesKept =
+    (text : List ℕ) → readProtocol text .number ≡ 0 → (i : ℕ) → i < readProtocol text .tables .«message_count» →
+    nameRule (nameText (getD (readProtocol text .tables .messages) i noMessage .name)) ≡ true
