@@ -23,7 +23,7 @@ use Rattle.records.specs.Line.{Line, Section, message, event, state, cell, unkn
 use Rattle.records.specs.Checks.{shaped, laterRead, badName, notKnown, twice, full, stallInStable, conflict, sectionChecks, lineRefusal}
 use Rattle.protocol.specs.declared.Reading.{Reading}
 use Rattle.protocol.specs.Reading.{readLines, readProtocol, unless, pickReading, refused, storedIn, stored, accepted, wholeRefusal}
-use Rattle.bounds.specs.Bounds.{NamesKept}
+use Rattle.bounds.specs.Bounds.{Named, NamesKept}
 
 -- ---- what a line that is not refused has passed
 
@@ -42,10 +42,6 @@ module _ (s : Section) (t : Tables) (k : ℕ) (f : Line) (e : firstOf (sectionCh
       passed-by (check 9 k (full s t)) _ (λ q. absurd (omega (arith, q))) c .0
 
 -- ---- names
-
-record Named (t : Tables) : Type 0 where
-  long : length (t .messages) ≡ 32
-  names : (i : ℕ) → i < t .«message_count» → nameRule (nameText (getD (t .messages) i noMessage .name)) ≡ true
 
 named-cleared : Named clearedTables
 unfolding clearedTables
@@ -110,4 +106,4 @@ names-kept text e =
     let body = readLines 2 (drop 1 (lines text)) clearedTables in
     let q = unless-number (openingOf protocolHeader text) body e in
     let n = named-lines 2 (drop 1 (lines text)) clearedTables named-cleared (ap (λ (r : Reading). r .number) (sym (q .1)) ∙ e) in
-    subst (λ (r : Reading). Named (r .tables)) (sym (q .1)) n .names
+    subst (λ (r : Reading). Named (r .tables)) (sym (q .1)) n

@@ -1,0 +1,1 @@
+// The planning call: a protocol text in, a listing out.
