@@ -1,2 +1,3 @@
+pub mod JudgeLaws
 pub mod Promises
 pub mod Determined
