@@ -1,1 +1,2 @@
 mod RefusedLaws
+pub mod Packing

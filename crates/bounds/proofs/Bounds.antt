@@ -1,6 +1,6 @@
--- The lines that the two readings tell.
+-- The numbers and lines that the two readings tell.
 use Prim.Native.Nat.{ℕ, zero, suc, _+_, _-_, _≤_, _<_}
-use mathlib.Core.Path.{_≡_, refl, sym, ap, _∙_}
+use mathlib.Core.Path.{_≡_, refl, sym, ap, _∙_, subst}
 use mathlib.Core.Bool.{Bool, true, false}
 use mathlib.Core.List.{List, [], _∷_, _++_}
 use mathlib.Core.Logic.{_⊎_, inl, inr, ⊎-elim}
@@ -20,20 +20,23 @@ use Rattle.tables.specs.declared.Tables.{Tables}
 use Rattle.tables.specs.Tables.{clearedTables, storedOf, withMessage, withEvent, withState, withCell}
 use Rattle.tables.specs.Cells.{cellsOf, cellOf}
 use Rattle.records.specs.Line.{Line, Section, message, event, state, cell, unknown, sectionOf}
-use Rattle.records.specs.Checks.{lineChecks, lineRefusal}
+use Rattle.records.specs.Checks.{sectionChecks, lineChecks, lineRefusal}
 use Rattle.mapping.specs.declared.Mapped.{Mapped}
 use Rattle.mapping.specs.Reading.{readMaps, readMapping, endOf, networkOf, field, unless as unlessMapped, lineChecks as mapChecks, lineRefusal as mapRefusal}
 use Rattle.protocol.specs.declared.Reading.{Reading}
 use Rattle.protocol.specs.Reading.{readLines, readProtocol, unless, storedIn, stored, accepted, wholeChecks, wholeRefusal, noEntryAt, hasNoEntry}
-use Rattle.bounds.specs.Bounds.{ProtocolLine, MappingLine}
-use Rattle.bounds.proofs.Told.{first-up-to, lines-le, opening-up-to}
+use Rattle.bounds.specs.Bounds.{Low, ProtocolLow, MappingLow}
+use Rattle.bounds.proofs.Told.{AllLow, first-low, lines-le, opening-low}
 
 -- ---- the protocol
 
-unless-up-to : (b : ℕ) (r : Refusal) (a : Reading) → r .line ≤ b → a .line ≤ b → unless r a .line ≤ b
-unless-up-to b r a h k = go (eqb (r .number) 0) refl
+abbrev LowReading : Reading → Type 0
+LowReading r = Low (r .number) (r .line)
+
+unless-low : (r : Refusal) (a : Reading) → Low (r .number) (r .line) → LowReading a → LowReading (unless r a)
+unless-low r a h k = go (eqb (r .number) 0) refl
   where
-    go : (t : Bool) → eqb (r .number) 0 ≡ t → unless r a .line ≤ b
+    go : (t : Bool) → eqb (r .number) 0 ≡ t → LowReading (unless r a)
     go true e = rw e k
     go false e = rw e h
 
@@ -53,15 +56,20 @@ stored-total state t f = omega arith
 stored-total cell t f = omega arith
 stored-total unknown t f = omega arith
 
-lines-up-to : (b k : ℕ) (ls : List (List ℕ)) (t : Tables) → k + length ls ≤ b → 2 + total t + length ls ≤ b → readLines k ls t .line ≤ b
+-- the checks of a line tell that line
+line-low : (s : Section) (t : Tables) (k : ℕ) (f : Line) → k ≤ 49153 → AllLow (sectionChecks s t k f)
+line-low s t k f h =
+    ((omega arith, h), ((omega arith, h), ((omega arith, h), ((omega arith, h), ((omega arith, h), ((omega arith, h), ((omega arith, h), ((omega arith, h), tt))))))))
+
+lines-low : (k : ℕ) (ls : List (List ℕ)) (t : Tables) → k + length ls ≤ 49153 → 2 + total t + length ls ≤ 49153 → LowReading (readLines k ls t)
 unfolding readLines wholeRefusal lineRefusal
-lines-up-to b k [] t h g =
-    unless-up-to b (wholeRefusal t) (accepted t) (first-up-to b (wholeChecks t) (omega arith, (omega (arith, entry-le t, g), tt))) (omega arith)
-lines-up-to b k (l ∷ ls) t h g =
-    let here : k ≤ b = omega (arith, h) in
-    unless-up-to b (lineRefusal t k (split 9 l)) (readLines (suc k) ls (stored t (split 9 l)))
-    (first-up-to b (lineChecks t k (split 9 l)) (here, (here, (here, (here, (here, (here, (here, (here, tt)))))))))
-    (lines-up-to b (suc k) ls (stored t (split 9 l)) (omega (arith, h)) (omega (arith, g, stored-total (sectionOf (split 9 l)) t (split 9 l))))
+lines-low k [] t h g =
+    unless-low (wholeRefusal t) (accepted t)
+    (first-low (wholeChecks t) ((omega arith, omega arith), ((omega arith, omega (arith, entry-le t, g)), tt))) (omega arith, omega arith)
+lines-low k (l ∷ ls) t h g =
+    unless-low (lineRefusal t k (split 9 l)) (readLines (suc k) ls (stored t (split 9 l)))
+    (first-low (lineChecks t k (split 9 l)) (line-low (sectionOf (split 9 l)) t k (split 9 l) (omega (arith, h))))
+    (lines-low (suc k) ls (stored t (split 9 l)) (omega (arith, h)) (omega (arith, g, stored-total (sectionOf (split 9 l)) t (split 9 l))))
 
 fits-or-not : (n : ℕ) → (n ≤ 49152) ⊎ (49152 < n)
 fits-or-not n = go (ltb 49152 n) refl
@@ -70,54 +78,57 @@ fits-or-not n = go (ltb 49152 n) refl
     go true e = inr (ltb-true 49152 n e)
     go false e = inl (ltb-false 49152 n e)
 
-pub protocol-line : ProtocolLine
+pub protocol-low : ProtocolLow
 unfolding readProtocol clearedTables
-protocol-line text = ⊎-elim small big (fits-or-not (length text))
+protocol-low text = ⊎-elim small big (fits-or-not (length text))
   where
     body : Reading
     body = readLines 2 (drop 1 (lines text)) clearedTables
 
-    small : length text ≤ 49152 → readProtocol text .line ≤ 49153
+    small : length text ≤ 49152 → LowReading (readProtocol text)
     small h =
-        unless-up-to 49153 (openingOf protocolHeader text) body (opening-up-to protocolHeader text h)
-        (lines-up-to 49153 2 (drop 1 (lines text)) clearedTables (omega (arith, lines-le text, h)) (omega (arith, lines-le text, h)))
+        unless-low (openingOf protocolHeader text) body (opening-low protocolHeader text h)
+        (lines-low 2 (drop 1 (lines text)) clearedTables (omega (arith, lines-le text, h)) (omega (arith, lines-le text, h)))
 
-    big : 49152 < length text → readProtocol text .line ≤ 49153
-    big h = omega (arith, ap (λ (r : Refusal). unless r body .line) (too-big protocolHeader text h))
+    big : 49152 < length text → LowReading (readProtocol text)
+    big h = subst (λ (r : Refusal). LowReading (unless r body)) (sym (too-big protocolHeader text h)) (omega arith, omega arith)
 
 -- ---- the mapping
 
-mapped-up-to : (b : ℕ) (r : Refusal) (a : Mapped) → r .line ≤ b → a .line ≤ b → unlessMapped r a .line ≤ b
-mapped-up-to b r a h k = go (eqb (r .number) 0) refl
+abbrev LowMapped : Mapped → Type 0
+LowMapped r = Low (r .number) (r .line)
+
+mapped-low : (r : Refusal) (a : Mapped) → Low (r .number) (r .line) → LowMapped a → LowMapped (unlessMapped r a)
+mapped-low r a h k = go (eqb (r .number) 0) refl
   where
-    go : (t : Bool) → eqb (r .number) 0 ≡ t → unlessMapped r a .line ≤ b
+    go : (t : Bool) → eqb (r .number) 0 ≡ t → LowMapped (unlessMapped r a)
     go true e = rw e k
     go false e = rw e h
 
-end-up-to : (b k : ℕ) (next : List MessageRow) (ns : List ℕ) → k ≤ b → endOf next k ns .line ≤ b
-end-up-to b k [] ns h = omega arith
-end-up-to b k (m ∷ next) ns h = h
+end-low : (k : ℕ) (next : List MessageRow) (ns : List ℕ) → k ≤ 49153 → LowMapped (endOf next k ns)
+end-low k [] ns h = (omega arith, omega arith)
+end-low k (m ∷ next) ns h = (omega arith, h)
 
-maps-up-to : (b k : ℕ) (ls : List (List ℕ)) (next : List MessageRow) (ns : List ℕ) → k + length ls ≤ b → readMaps k ls next ns .line ≤ b
+maps-low : (k : ℕ) (ls : List (List ℕ)) (next : List MessageRow) (ns : List ℕ) → k + length ls ≤ 49153 → LowMapped (readMaps k ls next ns)
 unfolding readMaps mapRefusal
-maps-up-to b k [] next ns h = end-up-to b k next ns (omega (arith, h))
-maps-up-to b k (l ∷ ls) next ns h =
-    let here : k ≤ b = omega (arith, h) in
-    mapped-up-to b (mapRefusal next k (split 9 l)) (readMaps (suc k) ls (drop 1 next) (ns ++ (networkOf (field (split 9 l) 2) ∷ [])))
-    (first-up-to b (mapChecks next k (split 9 l)) (here, (here, (here, tt))))
-    (maps-up-to b (suc k) ls (drop 1 next) (ns ++ (networkOf (field (split 9 l) 2) ∷ [])) (omega (arith, h)))
+maps-low k [] next ns h = end-low k next ns (omega (arith, h))
+maps-low k (l ∷ ls) next ns h =
+    let here : k ≤ 49153 = omega (arith, h) in
+    mapped-low (mapRefusal next k (split 9 l)) (readMaps (suc k) ls (drop 1 next) (ns ++ (networkOf (field (split 9 l) 2) ∷ [])))
+    (first-low (mapChecks next k (split 9 l)) ((omega arith, here), ((omega arith, here), ((omega arith, here), tt))))
+    (maps-low (suc k) ls (drop 1 next) (ns ++ (networkOf (field (split 9 l) 2) ∷ [])) (omega (arith, h)))
 
-pub mapping-line : MappingLine
+pub mapping-low : MappingLow
 unfolding readMapping
-mapping-line messages text = ⊎-elim small big (fits-or-not (length text))
+mapping-low messages text = ⊎-elim small big (fits-or-not (length text))
   where
     body : Mapped
     body = readMaps 2 (drop 1 (lines text)) messages []
 
-    small : length text ≤ 49152 → readMapping messages text .line ≤ 49153
+    small : length text ≤ 49152 → LowMapped (readMapping messages text)
     small h =
-        mapped-up-to 49153 (openingOf mappingHeader text) body (opening-up-to mappingHeader text h)
-        (maps-up-to 49153 2 (drop 1 (lines text)) messages [] (omega (arith, lines-le text, h)))
+        mapped-low (openingOf mappingHeader text) body (opening-low mappingHeader text h)
+        (maps-low 2 (drop 1 (lines text)) messages [] (omega (arith, lines-le text, h)))
 
-    big : 49152 < length text → readMapping messages text .line ≤ 49153
-    big h = omega (arith, ap (λ (r : Refusal). unlessMapped r body .line) (too-big mappingHeader text h))
+    big : 49152 < length text → LowMapped (readMapping messages text)
+    big h = subst (λ (r : Refusal). LowMapped (unlessMapped r body)) (sym (too-big mappingHeader text h)) (omega arith, omega arith)

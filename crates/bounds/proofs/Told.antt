@@ -1,6 +1,6 @@
--- The lines that checks tell.
+-- The numbers and lines that checks tell.
 use Prim.Native.Nat.{ℕ, zero, suc, _+_, _-_, _≤_, _<_}
-use mathlib.Core.Path.{_≡_, refl, sym, ap, _∙_}
+use mathlib.Core.Path.{_≡_, refl, sym, ap, _∙_, subst}
 use mathlib.Core.Bool.{Bool, true, false, cond}
 use mathlib.Core.List.{List, [], _∷_, dropLast}
 use native.Mathlib.Omega.{arith}
@@ -11,21 +11,22 @@ use Rattle.papers.specs.declared.Refusal.{Refusal}
 use Rattle.papers.specs.Checks.{Check, firstOf}
 use Rattle.papers.specs.Opening.{openingChecks, openingOf}
 use Rattle.papers.proofs.Checks.{first-given, first-passed}
+use Rattle.bounds.specs.Bounds.{Low}
 
--- Every check of the list tells a line up to b.
-abbrev pub UpTo : ℕ → List Check → Type 0
-UpTo b [] = Unit {0}
-UpTo b (c ∷ cs) = (c .line ≤ b) × UpTo b cs
+-- Every check of the list tells a number up to 15 and a line up to 49,153.
+abbrev pub AllLow : List Check → Type 0
+AllLow [] = Unit {0}
+AllLow (c ∷ cs) = Low (c .number) (c .line) × AllLow cs
 
 -- and so does the first that is given
-pub first-up-to : (b : ℕ) (cs : List Check) → UpTo b cs → firstOf cs .line ≤ b
+pub first-low : (cs : List Check) → AllLow cs → Low (firstOf cs .number) (firstOf cs .line)
 unfolding firstOf
-first-up-to b [] h = omega arith
-first-up-to b (c ∷ cs) h = go (c .given) refl (first-up-to b cs (h .1))
+first-low [] h = (omega arith, omega arith)
+first-low (c ∷ cs) h = go (c .given) refl (first-low cs (h .1))
   where
-    go : (t : Bool) → c .given ≡ t → firstOf cs .line ≤ b → firstOf (c ∷ cs) .line ≤ b
-    go true e k = omega (arith, ap (λ (r : Refusal). r .line) (first-given c cs e), h .0)
-    go false e k = omega (arith, ap (λ (r : Refusal). r .line) (first-passed c cs e))
+    go : (t : Bool) → c .given ≡ t → Low (firstOf cs .number) (firstOf cs .line) → Low (firstOf (c ∷ cs) .number) (firstOf (c ∷ cs) .line)
+    go true e k = subst (λ (r : Refusal). Low (r .number) (r .line)) (sym (first-given c cs e)) (h .0)
+    go false e k = subst (λ (r : Refusal). Low (r .number) (r .line)) (sym (first-passed c cs e)) k
 
 -- ---- how many lines there are
 
@@ -63,6 +64,7 @@ lines-le text = omega (arith, length-drop 1 (dropLast (split 10 text)), length-d
 
 -- ---- the opening
 
-pub opening-up-to : (header text : List ℕ) → length text ≤ 49152 → openingOf header text .line ≤ 49153
+pub opening-low : (header text : List ℕ) → length text ≤ 49152 → Low (openingOf header text .number) (openingOf header text .line)
 unfolding openingOf
-opening-up-to header text h = first-up-to 49153 (openingChecks header text) (omega arith, (omega (arith, many-le 10 text), (omega arith, tt)))
+opening-low header text h =
+    first-low (openingChecks header text) ((omega arith, omega arith), ((omega arith, omega (arith, many-le 10 text)), ((omega arith, omega arith), tt)))

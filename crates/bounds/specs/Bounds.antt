@@ -1,5 +1,5 @@
--- How large the line of a refusal can be. A text of at most 49,152 bytes has at most that many lines;
--- NO_END tells the line after the last end, and UNMATCHED the line after the last. So a line has its place in 16 bits.
+-- How large the numbers of a refusal can be: a refusal number of a paper is at most 15. A text of at most 49,152 bytes has at most
+-- that many lines; NO_END tells the line after the last end, and UNMATCHED the line after the last. So a line has its place in 16 bits.
 use Prim.Native.Nat.{ℕ, _≤_, _<_}
 use mathlib.Core.Path.{_≡_}
 use mathlib.Core.Bool.{true}
@@ -12,11 +12,14 @@ use Rattle.tables.specs.declared.Tables.{Tables}
 use Rattle.mapping.specs.Reading.{readMapping}
 use Rattle.protocol.specs.Reading.{readProtocol}
 
-abbrev pub ProtocolLine : Type 0
-ProtocolLine = (text : List ℕ) → readProtocol text .line ≤ 49153
+abbrev pub Low : ℕ → ℕ → Type 0
+Low number line = (number ≤ 15) × (line ≤ 49153)
 
-abbrev pub MappingLine : Type 0
-MappingLine = (messages : List MessageRow) (text : List ℕ) → readMapping messages text .line ≤ 49153
+abbrev pub ProtocolLow : Type 0
+ProtocolLow = (text : List ℕ) → Low (readProtocol text .number) (readProtocol text .line)
+
+abbrev pub MappingLow : Type 0
+MappingLow = (messages : List MessageRow) (text : List ℕ) → Low (readMapping messages text .number) (readMapping messages text .line)
 
 -- The rows of messages: there are 32, and the name of each declared message keeps the name rule.
 pub record Named (t : Tables) : Type 0 where
