@@ -1,2 +1,4 @@
+pub mod Listings
 mod RefusedLaws
 pub mod Packing
+pub mod Determined

@@ -1,7 +1,7 @@
 -- The listing of a plan (01-scope.md, "Two listings, whole").
 -- "It prints a header, the class, the least count, then name and network of each message."
 -- "For class 2 a single line follows `class>2`: `cycle` and the names in order, parted by tabs."
-use Prim.Native.Nat.{ℕ}
+use Prim.Native.Nat.{ℕ, _<_}
 use mathlib.Core.List.{List, [], _∷_, _++_, map}
 use lib.ListN.{getD, take}
 use Rattle.rules.specs.declared.Message.{Message}
@@ -11,7 +11,7 @@ use Rattle.text.specs.Words.{planHeader, classWord, networksWord, cycleWord, ta
 use Rattle.text.specs.Written.{decimal}
 use Rattle.tables.specs.declared.MessageRow.{MessageRow}
 use Rattle.tables.specs.Tables.{noMessage}
-use Rattle.mapping.specs.Text.{mapTexts}
+use Rattle.mapping.specs.Text.{mapFields, mapTexts}
 
 -- The name of message m.
 unfoldable pub nameAt : List MessageRow → ℕ → List ℕ
@@ -25,6 +25,10 @@ numberLine word n = ((word ++ tab) ++ decimal n) ++ newline
 unfoldable pub classHead : ℕ → List ℕ
 classHead class = (planHeader ++ newline) ++ numberLine classWord class
 
+-- The line of a message and its network.
+abbrev pub mapLine : List ℕ → ℕ → List ℕ
+mapLine name n = mapFields name n ++ newline
+
 -- Class 3: the least count, then a line for each message, as a mapping text has it.
 unfoldable pub classThree : List MessageRow → List ℕ → ℕ → List ℕ
 classThree messages networks count = (classHead 3 ++ numberLine networksWord count) ++ mapTexts messages networks
@@ -34,9 +38,13 @@ unfoldable pub namesText : List MessageRow → List ℕ → List ℕ
 namesText rows [] = []
 namesText rows (m ∷ l) = (tab ++ nameAt rows m) ++ namesText rows l
 
--- Class 2: the names of the shown cycle.
+-- `cycle` and the names in order.
+unfoldable pub cycleLine : List MessageRow → List ℕ → List ℕ
+cycleLine rows cycle = (cycleWord ++ namesText rows cycle) ++ newline
+
+-- Class 2: the line of the shown cycle.
 unfoldable pub classTwo : List MessageRow → List ℕ → List ℕ
-classTwo rows cycle = ((classHead 2 ++ cycleWord) ++ namesText rows cycle) ++ newline
+classTwo rows cycle = classHead 2 ++ cycleLine rows cycle
 
 -- ---- the numbers that the code keeps in types of their own
 
@@ -52,3 +60,7 @@ firstMessages n l = map messageNo (take n l)
 
 unfoldable pub firstNetworks : ℕ → List Network → List ℕ
 firstNetworks n l = map networkNo (take n l)
+
+-- Each of the first n of these messages has a row.
+abbrev pub MessagesBelow : ℕ → List ℕ → Type 0
+MessagesBelow n l = (i : ℕ) → i < n → getD l i 0 < 32
