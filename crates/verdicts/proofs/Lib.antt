@@ -1,0 +1,4 @@
+pub mod Turning
+pub mod Written
+pub mod Waiting
+pub mod Planning
