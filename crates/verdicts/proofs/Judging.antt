@@ -1,0 +1,94 @@
+-- The shown cycle of the rows of steps is the judgement of a mapping.
+use Prim.Native.Nat.{ℕ, _<_, _≤_}
+use mathlib.Core.Path.{_≡_, sym, subst}
+use mathlib.Core.Logic.{_⊎_, inl, inr, ⊎-elim, _↔_}
+use mathlib.Core.List.{List, [], _∷_, _++_, map}
+use native.Mathlib.Decide.{ℕ-discrete}
+use native.Mathlib.Omega.{arith}
+use lib.ListN.{getD, take, replicate}
+use Rattle.rules.specs.declared.Message.{Message}
+use Rattle.rules.specs.Walks.{Rel, Begins}
+use Rattle.rules.specs.Rules.{Relations, Mapping, Waits, Step}
+use Rattle.rules.specs.Plan.{Closed, JudgeCycle}
+use Rattle.rules.specs.Promises.{Accepted}
+use Rattle.rules.proofs.Chains.{chain-map}
+use Rattle.rules.proofs.Same.{shown-same}
+use Rattle.rules.proofs.Decided.{step-within, unfit-closed}
+use Rattle.rows.specs.Rows.{Bit, Rows}
+use Rattle.walks.specs.Walks.{Within, Cycle}
+use Rattle.tables.specs.declared.Tables.{Tables}
+use Rattle.tables.specs.Cells.{relationsOfTables, TablesOk}
+use Rattle.tables.specs.Relations.{StallsRows}
+use Rattle.tables.proofs.InRange.{relations-accepted}
+use Rattle.verdicts.specs.Verdicts.{WaitsOf, MessagesPast, Fitting, Unfitting}
+use Rattle.verdicts.specs.declared.Judged.{Judged}
+use Rattle.verdicts.specs.Leaves.{asMessage, StalledRow, Behind, StepsRows, StepsOf, RowsJudged}
+use Rattle.verdicts.proofs.Waiting.{rows-waits}
+use Rattle.verdicts.proofs.Written.{cycle-first, cycle-few, cycle-long, cycle-messages, cycle-past}
+
+-- ---- the rows of steps are those of the rules
+
+module _ (t : Tables) (ok : TablesOk t) (some : 0 < t .«message_count») (φ : Mapping) (stalls : List ℕ) (stalled : ℕ) (g : StallsRows t stalls) (s : StalledRow stalls (t .«message_count») stalled) where
+  pub steps-told : (waits steps : List ℕ) → WaitsOf (relationsOfTables t) waits → StepsRows waits φ stalled (t .«message_count») steps → StepsOf t φ steps
+  steps-told waits steps w f m k h = (
+    λ b. ⊎-elim (λ x. inl (w m k .0 x))
+        (λ x. let a = s k .0 (x .1 .bit) in inr (record { m-message = h; k-message = x .0; differ = x .1 .differ; share = x .1 .share; stalled = (a .0, g (a .0) k .0 (a .2)) }))
+        (f m k h .0 b),
+    λ x. f m k h .1 (⊎-elim (λ y. inl (w m k .1 y)) (λ q. inr (q .k-message, record { differ = q .differ; share = q .share; bit = told k (q .stalled .0) (q .stalled .1) })) x),
+  )
+    where
+      told : (k a : ℕ) → relationsOfTables t .stalls a k → Bit stalled k
+      told k a x = s k .1 (a, relations-accepted t ok some .stalls-messages a k x .0, g a k .1 x)
+
+pub steps-within : (waits : List ℕ) (φ : Mapping) (stalled n : ℕ) (steps : List ℕ) → StepsRows waits φ stalled n steps → Within n waits steps
+steps-within waits φ stalled n steps f a b r = record { i-below = r .i-below; j-below = r .j-below; bit = f a b (r .i-below) .1 (inl (r .bit)) }
+
+-- ---- the verdict
+
+begins-map : (R S : Rel) → ((a b : ℕ) → R a b → S a b) → (a : ℕ) (l : List ℕ) → Begins R a l → Begins S a l
+begins-map R S f a [] b = b
+begins-map R S f a (x ∷ l) b = f a x b
+
+closed-map : (W W′ S S′ : Rel) → ((a b : ℕ) → W a b → W′ a b) → ((a b : ℕ) → S a b → S′ a b) → (ms : List ℕ) → Closed W S ms → Closed W′ S′ ms
+closed-map W W′ S S′ f g [] c = c
+closed-map W W′ S S′ f g (a ∷ l) c = (begins-map W W′ f a (l ++ a ∷ []) (c .0), chain-map g a (l ++ a ∷ []) (c .1))
+
+module _ (p : Relations) (acc : Accepted p) (few : p .count ≤ 32) (φ : Mapping) (waits steps : List ℕ) (w : WaitsOf p waits)
+    (s : (m k : ℕ) → m < p .count → Bit (getD steps m 0) k ↔ Step p φ m k) where
+  same-steps : (a b : ℕ) → Rows (p .count) steps a b ↔ Step p φ a b
+  same-steps a b = (λ r. s a b (r .i-below) .0 (r .bit), λ x. let h = step-within p acc φ a b x in record { i-below = h .0; j-below = h .1; bit = s a b (h .0) .1 x })
+
+  module _ (new : List ℕ) (len : ℕ) (c : Cycle waits steps (p .count) (replicate 32 0) new len) (cycle : List Message) (is : cycle ≡ map asMessage new) where
+    verdict : Fitting p φ (record { length = len; cycle = cycle; waits = waits }) ⊎ Unfitting p φ (record { length = len; cycle = cycle; waits = waits })
+    verdict = go (ℕ-discrete len 0)
+      where
+        go : Dec (len ≡ 0) → Fitting p φ (record { length = len; cycle = cycle; waits = waits }) ⊎ Unfitting p φ (record { length = len; cycle = cycle; waits = waits })
+        go (yes z) = inl (
+            record {
+              none = z;
+              fit =
+                  λ u. let k = unfit-closed p φ u in
+                  c .none z (k .0)
+                  (closed-map (Waits p) (Rows (p .count) waits) (Step p φ) (Rows (p .count) steps) (λ a b. rows-waits p acc waits w a b .1) (λ a b. same-steps a b .1) (k .0) (k .1));
+              no-cycle = subst (λ (i : ℕ). MessagesPast i cycle) z (cycle-past (p .count) few waits steps new len c cycle is);
+            }
+            )
+        go (no g) = inr (
+            record {
+              some = omega arith;
+              few = cycle-few (p .count) few waits steps new len c cycle is;
+              long = cycle-long (p .count) few waits steps new len c cycle is;
+              messages = cycle-messages (p .count) few waits steps new len c cycle is g;
+              cycle =
+                  subst (JudgeCycle p φ) (sym (cycle-first (p .count) few waits steps new len c cycle is))
+                  (shown-same (Rows (p .count) waits) (Waits p) (Rows (p .count) steps) (Step p φ) (rows-waits p acc waits w) same-steps (take len new) (c .shown g));
+              cycle-past = cycle-past (p .count) few waits steps new len c cycle is;
+            }
+            )
+
+pub judged : (waits steps : List ℕ) (n : ℕ) → n ≤ 32 → (new : List ℕ) (len : ℕ) → Cycle waits steps n (replicate 32 0) new len → (cycle : List Message) → cycle ≡ map asMessage new
+    → RowsJudged waits steps n (record { length = len; cycle = cycle; waits = waits })
+judged waits steps n few new len c cycle is t φ ok some e w s = record {
+  verdict = verdict (relationsOfTables t) (relations-accepted t ok (omega arith)) (omega arith) φ waits steps w s new len (subst (λ (k : ℕ). Cycle waits steps k (replicate 32 0) new len) (sym e) c) cycle is;
+  waits = w;
+}

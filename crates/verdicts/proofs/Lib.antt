@@ -1,0 +1,6 @@
+pub mod Turning
+pub mod Written
+pub mod Waiting
+pub mod Planning
+pub mod Queueing
+pub mod Judging
