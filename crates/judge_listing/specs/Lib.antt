@@ -1,1 +1,2 @@
 pub mod JudgeText
+pub mod Steps

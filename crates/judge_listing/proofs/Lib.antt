@@ -1,0 +1,4 @@
+pub mod Places
+pub mod Chains
+pub mod StepLines
+pub mod Listings
