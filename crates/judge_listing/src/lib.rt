@@ -36,10 +36,10 @@ fn next_place(i: usize, count: usize) -> usize
     requires { ⌜ i < count ⌝ }
     ensures { λ r. ⌜ r ≡ nextPlace count i ⌝ }
 {
-    if i + 1 < count {
-        return i + 1;
+    if i + 1 == count {
+        return 0;
     }
-    0
+    i + 1
 }
 
 // The step at place i of the shown cycle.
@@ -93,10 +93,10 @@ fn unfit_length(
     ensures { λ r. ⌜ r ≡ length (unfitText messages (walkSteps waits count cycle)) ⌝ }
 {
     let mut n = 17;
-    let mut i = 0;
-    while i < count {
-        n += step_length(step_at(messages, cycle, count, waits, i));
-        i += 1;
+    let mut counted = 0;
+    while counted < count {
+        n += step_length(step_at(messages, cycle, count, waits, counted));
+        counted += 1;
     }
     n
 }
@@ -161,11 +161,11 @@ fn more_steps(
     ensures { λ r. ⌜ Pasted (stepTexts messages (walkSteps waits count cycle)) start (now (out .entry)) (now (out .exit)) r ⌝ }
 {
     let mut at = start;
-    let mut i = 0;
-    while i < count {
-        let step = step_at(messages, cycle, count, waits, i);
+    let mut written = 0;
+    while written < count {
+        let step = step_at(messages, cycle, count, waits, written);
         at += put_step(&mut out[at..], step);
-        i += 1;
+        written += 1;
     }
     at
 }
@@ -174,9 +174,8 @@ fn more_steps(
 pub fn fit_listing(out: &mut [u8]) -> Answer
     ensures { λ r. ⌜ Listed fitText (now (out .entry)) (now (out .exit)) r ⌝ }
 {
-    let needed = 15;
-    if out.len() < needed {
-        return answers::no_room(needed);
+    if out.len() < 15 {
+        return answers::no_room(15);
     }
     let end = put_head(out, b"fit");
     answers::listed(end)

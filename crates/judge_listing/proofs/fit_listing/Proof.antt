@@ -1,9 +1,9 @@
 -- `judge_listing::fit_listing` meets its contract.
-use mathlib.Core.Path.{sym}
+use mathlib.Core.Path.{refl}
 use native.Mathlib.Omega.{arith}
 use Rattle.text.specs.Words.{fitWord}
 use Rattle.judge_listing.specs.JudgeText.{verdictHead, fitText}
-use Rattle.judge_listing.proofs.Listings.{verdict-length, not-listed, is-listed}
+use Rattle.judge_listing.proofs.Listings.{verdict-length, is-listed}
 use borrow.Author.Needs.{needs}
 use Rattle.judge_listing.proofs.fit_listing.Statement.{statement}
 use Rattle.judge_listing.proofs.fit_listing.Tie as tie
@@ -12,8 +12,8 @@ no-room-requires : tie.Need-no-room-requires
 no-room-requires c κs = search needs
 
 returns : tie.Need-returns
-unfolding fitText
-returns c = not-listed (verdictHead fitWord) (c .before .before .before .args .out .now) 15 _ (sym (verdict-length fitWord)) (c .before .if1 .taken) (c .no-room .ensures)
+unfolding fitText verdictHead
+returns c = record { no-room = λ _. record { answer = cc; bytes = refl }; room = λ k. absurd (omega arith) }
 
 slice-aggregate-put-head : tie.Need-slice-aggregate-put-head
 slice-aggregate-put-head c = search needs

@@ -43,7 +43,7 @@ array-read-row : tie.Need-array-read-row
 array-read-row c = omega (arith, c .index .ensures, from-below (c .before .before .before .before))
 
 name-of-requires : tie.Need-name-of-requires
-name-of-requires c κs = from-below (c .before .before .before .before)
+name-of-requires c κs = omega (arith, from-below (c .before .before .before .before))
 
 index-requires-2 : tie.Need-index-requires-2
 index-requires-2 c κs = search needs
@@ -52,7 +52,7 @@ has-requires : tie.Need-has-requires
 has-requires c κs = omega (arith, c .index2 .ensures, to-below (c .before .before .before .before))
 
 name-of-requires-2 : tie.Need-name-of-requires-2
-name-of-requires-2 c κs = to-below (c .before .before .before .before .before)
+name-of-requires-2 c κs = omega (arith, to-below (c .before .before .before .before .before))
 
 returns : tie.Need-returns
 returns c = let a = c .before .before .before .before .before .before .before .before .args in
