@@ -35,18 +35,29 @@ abbrev pub wordText : Word → List ℕ
 wordText waits = waitsWord
 wordText queues = queuesWord
 
+-- The line of a step up to its word.
+unfoldable pub lineStart : List ℕ → List ℕ
+lineStart from = ((stepWord ++ tab) ++ from) ++ tab
+
 unfoldable pub stepLine : List ℕ → List ℕ → List ℕ → List ℕ
-stepLine from word to = ((((((stepWord ++ tab) ++ from) ++ tab) ++ word) ++ tab) ++ to) ++ newline
+stepLine from word to = (((lineStart from ++ word) ++ tab) ++ to) ++ newline
+
+unfoldable pub stepText : List MessageRow → ShownStep → List ℕ
+stepText rows s = stepLine (nameAt rows (s .from)) (wordText (s .word)) (nameAt rows (s .to))
 
 unfoldable pub stepTexts : List MessageRow → List ShownStep → List ℕ
 stepTexts rows [] = []
-stepTexts rows (s ∷ ss) = stepLine (nameAt rows (s .from)) (wordText (s .word)) (nameAt rows (s .to)) ++ stepTexts rows ss
+stepTexts rows (s ∷ ss) = stepText rows s ++ stepTexts rows ss
+
+-- The header and the verdict.
+unfoldable pub verdictHead : List ℕ → List ℕ
+verdictHead verdict = ((judgeHeader ++ newline) ++ verdict) ++ newline
 
 unfoldable pub fitText : List ℕ
-fitText = ((judgeHeader ++ newline) ++ fitWord) ++ newline
+fitText = verdictHead fitWord
 
 unfoldable pub unfitText : List MessageRow → List ShownStep → List ℕ
-unfitText rows steps = (((judgeHeader ++ newline) ++ unfitWord) ++ newline) ++ stepTexts rows steps
+unfitText rows steps = verdictHead unfitWord ++ stepTexts rows steps
 
 -- ---- words by the rows of waits
 
