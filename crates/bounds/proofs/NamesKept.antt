@@ -4,14 +4,14 @@ use mathlib.Core.Path.{_≡_, refl, sym, ap, _∙_, subst}
 use mathlib.Core.Bool.{Bool, true, false, not}
 use mathlib.Core.List.{List, [], _∷_}
 use native.Mathlib.Omega.{arith}
-use lib.ListN.{length, getD, set, drop, length-set, length-replicate}
+use lib.ListN.{length, getD, set, drop, replicate, length-set, length-replicate}
 use lib.Seq.{getD-set-same, getD-set-other}
 use lib.Dec.{eqb}
 use borrow.Author.Tests.{leb-false, eqb-true, eqb-false}
 use Rattle.text.specs.Parts.{split, lines}
 use Rattle.text.specs.Name.{nameRule, nameText, nameOf}
 use Rattle.text.specs.Words.{protocolHeader}
-use Rattle.text.proofs.NameLaws.{name-text}
+use Rattle.text.proofs.NameLaws.{name-text, rule-length}
 use Rattle.papers.specs.declared.Refusal.{Refusal}
 use Rattle.papers.specs.Checks.{check, firstOf}
 use Rattle.papers.specs.Opening.{openingOf}
@@ -45,7 +45,12 @@ module _ (s : Section) (t : Tables) (k : ℕ) (f : Line) (e : firstOf (sectionCh
 
 named-cleared : Named clearedTables
 unfolding clearedTables
-named-cleared = record { long = length-replicate 32 noMessage; names = λ i h. absurd (omega (arith, h)) }
+named-cleared = record { long = length-replicate 32 noMessage; short = no-name 32; names = λ i h. absurd (omega (arith, h)) }
+  where
+    no-name : (n i : ℕ) → length (nameText (getD (replicate n noMessage) i noMessage .name)) ≤ 24
+    no-name zero i = omega (arith, ap length (name-text []))
+    no-name (suc n) zero = omega (arith, ap length (name-text []))
+    no-name (suc n) (suc i) = no-name n i
 
 not-not : (b : Bool) → not b ≡ false → b ≡ true
 not-not true e = refl
@@ -57,8 +62,25 @@ name-here f e = ap nameRule (name-text (field f 1)) ∙ not-not (nameRule (field
 
 named-message : (t : Tables) (row : MessageRow) → Named t → t .«message_count» < 32 → nameRule (nameText (row .name)) ≡ true → Named (withMessage t row)
 unfolding withMessage
-named-message t row n h g = record { long = length-set (t .messages) (t .«message_count») row ∙ n .long; names = λ i b. at i (eqb i (t .«message_count»)) refl b }
+named-message t row n h g =
+    record {
+      long = length-set (t .messages) (t .«message_count») row ∙ n .long;
+      short = λ i. short-at i (eqb i (t .«message_count»)) refl;
+      names = λ i b. at i (eqb i (t .«message_count»)) refl b;
+    }
   where
+    short-at : (i : ℕ) (d : Bool) → eqb i (t .«message_count») ≡ d
+        → length (nameText (getD (set (t .messages) (t .«message_count») row) i noMessage .name)) ≤ 24
+    short-at i true e =
+        let q = eqb-true i (t .«message_count») e in
+        subst (λ (r : MessageRow). length (nameText (r .name)) ≤ 24)
+        (sym (ap (λ (j : ℕ). getD (set (t .messages) (t .«message_count») row) j noMessage) q
+        ∙ getD-set-same (t .messages) (t .«message_count») row noMessage (omega (arith, h, n .long))))
+        (rule-length (nameText (row .name)) g .1)
+    short-at i false e =
+        let q = eqb-false i (t .«message_count») e in
+        subst (λ (r : MessageRow). length (nameText (r .name)) ≤ 24) (sym (getD-set-other (t .messages) (t .«message_count») i row noMessage q)) (n .short i)
+
     at : (i : ℕ) (d : Bool) → eqb i (t .«message_count») ≡ d → i < t .«message_count» + 1
         → nameRule (nameText (getD (set (t .messages) (t .«message_count») row) i noMessage .name)) ≡ true
     at i true e b =
@@ -75,9 +97,9 @@ named-message t row n h g = record { long = length-set (t .messages) (t .«messa
 named-stored : (s : Section) (t : Tables) (f : Line) → Named t → badName s f ≡ false → full s t ≡ false → Named (storedIn s t f)
 unfolding withEvent withState withCell
 named-stored message t f n e g = named-message t (messageOf f) n (omega (arith, leb-false 32 (t .«message_count») g)) (name-here f e)
-named-stored event t f n e g = record { long = n .long; names = n .names }
-named-stored state t f n e g = record { long = n .long; names = n .names }
-named-stored cell t f n e g = record { long = n .long; names = n .names }
+named-stored event t f n e g = record { long = n .long; short = n .short; names = n .names }
+named-stored state t f n e g = record { long = n .long; short = n .short; names = n .names }
+named-stored cell t f n e g = record { long = n .long; short = n .short; names = n .names }
 named-stored unknown t f n e g = n
 
 -- ---- the text

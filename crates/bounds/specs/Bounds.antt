@@ -21,9 +21,10 @@ ProtocolLow = (text : List ℕ) → Low (readProtocol text .number) (readProtoco
 abbrev pub MappingLow : Type 0
 MappingLow = (messages : List MessageRow) (text : List ℕ) → Low (readMapping messages text .number) (readMapping messages text .line)
 
--- The rows of messages: there are 32, and the name of each declared message keeps the name rule.
+-- The rows of messages: there are 32, the name of each declared message keeps the name rule, and no row has a longer name.
 pub record Named (t : Tables) : Type 0 where
   pub long : length (t .messages) ≡ 32
+  pub short : (i : ℕ) → length (nameText (getD (t .messages) i noMessage .name)) ≤ 24
   pub names : (i : ℕ) → i < t .«message_count» → nameRule (nameText (getD (t .messages) i noMessage .name)) ≡ true
 
 -- So it is with the tables of an accepted text.

@@ -18,7 +18,7 @@ use Rattle.answers.specs.Answers.{Refused, Listed, packedAnswer}
 use Rattle.judge_listing.specs.JudgeText.{ShownStep, unfitText}
 use Rattle.verdicts.specs.Verdicts.{mappingOf}
 use Rattle.plan.proofs.Determined.{refused-one, listed-one}
-use Rattle.judge.specs.Call.{Shows, ShowsAll, FitListing, UnfitListing, JudgeListing, Judged, mapped, Call, Packed}
+use Rattle.judge.specs.Call.{Shows, ShowsAll, FitListing, UnfitListing, JudgeListing, Judged, mappedFor, AfterProtocol, Call, Packed}
 use Rattle.judge.specs.Determined.{JudgeDetermined, PackedDetermined}
 
 -- ---- the steps
@@ -63,19 +63,24 @@ judged-one t φ old new₁ new₂ r s v w =
     let same = listing-one t φ (w .listing) (v .listing) (w .allowed) (v .allowed) in
     listed-one (v .listing) old new₁ new₂ r s (v .listed) (subst (λ (l : List ℕ). Listed l old new₂ s) same (w .listed))
 
+after-one : (t : Tables) (y old new₁ new₂ : List ℕ) (r s : Answer) → AfterProtocol t y old new₁ r → AfterProtocol t y old new₂ s → (r ≡ s) × (new₁ ≡ new₂)
+after-one t y old new₁ new₂ r s c d = go (eqb (mappedFor t y .number) 0) refl
+  where
+    go : (b : Bool) → eqb (mappedFor t y .number) 0 ≡ b → (r ≡ s) × (new₁ ≡ new₂)
+    go true e =
+        let a = eqb-true (mappedFor t y .number) 0 e in
+        judged-one t (mappingOf (mappedFor t y .networks)) old new₁ new₂ r s (c .judged a) (d .judged a)
+    go false e =
+        let n = eqb-false (mappedFor t y .number) 0 e in
+        refused-one (mappedFor t y .number) 1 (mappedFor t y .line) old new₁ new₂ r s (c .mapping-refused n) (d .mapping-refused n)
+
 pub judge-determined : JudgeDetermined
 judge-determined x y old new₁ new₂ r s c d = go (eqb (readProtocol x .number) 0) refl
   where
-    accepted : readProtocol x .number ≡ 0 → (b : Bool) → eqb (mapped x y .number) 0 ≡ b → (r ≡ s) × (new₁ ≡ new₂)
-    accepted z true e =
-        let a = eqb-true (mapped x y .number) 0 e in
-        judged-one (readProtocol x .tables) (mappingOf (mapped x y .networks)) old new₁ new₂ r s (c .judged z a) (d .judged z a)
-    accepted z false e =
-        let n = eqb-false (mapped x y .number) 0 e in
-        refused-one (mapped x y .number) 1 (mapped x y .line) old new₁ new₂ r s (c .mapping-refused z n) (d .mapping-refused z n)
-
     go : (b : Bool) → eqb (readProtocol x .number) 0 ≡ b → (r ≡ s) × (new₁ ≡ new₂)
-    go true e = accepted (eqb-true (readProtocol x .number) 0 e) (eqb (mapped x y .number) 0) refl
+    go true e =
+        let z = eqb-true (readProtocol x .number) 0 e in
+        after-one (readProtocol x .tables) y old new₁ new₂ r s (c .protocol-accepted z) (d .protocol-accepted z)
     go false e =
         let n = eqb-false (readProtocol x .number) 0 e in
         refused-one (readProtocol x .number) 0 (readProtocol x .line) old new₁ new₂ r s (c .protocol-refused n) (d .protocol-refused n)

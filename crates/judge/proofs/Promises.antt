@@ -31,8 +31,8 @@ use Rattle.verdicts.specs.Verdicts.{mappingOf}
 use Rattle.bounds.specs.Bounds.{Named}
 use Rattle.bounds.proofs.NamesKept.{names-kept}
 use Rattle.plan.specs.Call.{Three, Two, Planned, Call as PlanCall}
-use Rattle.judge.specs.Call.{FitListing, UnfitListing, Judged, mapped, Call as JudgeCall}
-use Rattle.judge.specs.Promises.{tablesOf, JudgedFit, JudgedUnfit, TextUses, ThreeKept, TwoKept, PlansKept}
+use Rattle.judge.specs.Call.{FitListing, UnfitListing, Judged, Call as JudgeCall}
+use Rattle.judge.specs.Promises.{tablesOf, mapped, JudgedFit, JudgedUnfit, TextUses, ThreeKept, TwoKept, PlansKept}
 
 -- zeros behind change nothing that is read
 zero-at : (n i : ℕ) → _≡_ {A = ℕ} (getD (replicate n 0) i 0) 0
@@ -73,13 +73,13 @@ module _ (x : List ℕ) (e : readProtocol x .number ≡ 0) where
 
   judged-fit : (y : List ℕ) → mapped x y .number ≡ 0 → Fit p (mappingOf (mapped x y .networks)) → JudgedFit x y
   judged-fit y a fit old new r c =
-      let j = c .judged e a in
+      let j = c .protocol-accepted e .judged a in
       ⊎-elim (λ (w : FitListing p (mappingOf (mapped x y .networks)) (j .listing)). subst (λ (l : List ℕ). Listed l old new r) (w .is) (j .listed))
       (λ (w : UnfitListing (t .messages) p (mappingOf (mapped x y .networks)) (j .listing)). absurd (fit (w .unfit))) (j .allowed)
 
   judged-unfit : (y : List ℕ) → mapped x y .number ≡ 0 → (Fit p (mappingOf (mapped x y .networks)) → ⊥) → JudgedUnfit x y
   judged-unfit y a no-fit old new r c =
-      let j = c .judged e a in
+      let j = c .protocol-accepted e .judged a in
       ⊎-elim (λ (w : FitListing p (mappingOf (mapped x y .networks)) (j .listing)). absurd (no-fit (w .fit)))
       (λ (w : UnfitListing (t .messages) p (mappingOf (mapped x y .networks)) (j .listing)). (w .steps, subst (λ (l : List ℕ). Listed l old new r) (w .is) (j .listed))) (j .allowed)
 

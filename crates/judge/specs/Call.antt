@@ -60,18 +60,18 @@ pub record Judged (t : Tables) (φ : Mapping) (old new : List ℕ) (r : Answer) 
 -- ---- the call
 
 -- The mapping text, read for the protocol's messages.
-abbrev pub mapped : List ℕ → List ℕ → Mapped
-mapped protocol mapping = readMapping (messagesOf (readProtocol protocol .tables)) mapping
+abbrev pub mappedFor : Tables → List ℕ → Mapped
+mappedFor t mapping = readMapping (messagesOf t) mapping
+
+-- What follows once the protocol is accepted: the mapping (paper 1), then 16.
+pub record AfterProtocol (t : Tables) (mapping old new : List ℕ) (r : Answer) : Type 0 where
+  pub mapping-refused : mappedFor t mapping .number ≢ 0 → Refused (mappedFor t mapping .number) 1 (mappedFor t mapping .line) old new r
+  pub judged : mappedFor t mapping .number ≡ 0 → Judged t (mappingOf (mappedFor t mapping .networks)) old new r
 
 -- "A judgement checks the protocol (paper 0), then the mapping (paper 1: 1 to 4, 14, 15), then 16."
 pub record Call (protocol mapping old new : List ℕ) (r : Answer) : Type 0 where
   pub protocol-refused : readProtocol protocol .number ≢ 0 → Refused (readProtocol protocol .number) 0 (readProtocol protocol .line) old new r
-  pub mapping-refused :
-      readProtocol protocol .number ≡ 0 → mapped protocol mapping .number ≢ 0 →
-      Refused (mapped protocol mapping .number) 1 (mapped protocol mapping .line) old new r
-  pub judged :
-      readProtocol protocol .number ≡ 0 → mapped protocol mapping .number ≡ 0 →
-      Judged (readProtocol protocol .tables) (mappingOf (mapped protocol mapping .networks)) old new r
+  pub protocol-accepted : readProtocol protocol .number ≡ 0 → AfterProtocol (readProtocol protocol .tables) mapping old new r
 
 -- The call from a host: the answer's numbers packed into one.
 pub record Packed (protocol mapping old new : List ℕ) (k : ℕ) : Type 0 where

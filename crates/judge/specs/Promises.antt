@@ -10,6 +10,7 @@ use Rattle.tables.specs.declared.Tables.{Tables}
 use Rattle.tables.specs.Tables.{messagesOf}
 use Rattle.tables.specs.Cells.{relationsOfTables}
 use Rattle.protocol.specs.Reading.{readProtocol}
+use Rattle.mapping.specs.declared.Mapped.{Mapped}
 use Rattle.mapping.specs.Text.{mappingText}
 use Rattle.answers.specs.declared.Answer.{Answer}
 use Rattle.answers.specs.Answers.{Listed}
@@ -17,11 +18,15 @@ use Rattle.plan_listing.specs.PlanText.{classThree, classTwo}
 use Rattle.judge_listing.specs.JudgeText.{ShownStep, fitText, unfitText}
 use Rattle.verdicts.specs.Verdicts.{mappingOf}
 use Rattle.plan.specs.Call.{Call as PlanCall}
-use Rattle.judge.specs.Call.{mapped, Call as JudgeCall}
+use Rattle.judge.specs.Call.{mappedFor, Call as JudgeCall}
 
 -- The tables of an accepted protocol text.
 abbrev pub tablesOf : List ℕ → Tables
 tablesOf protocol = readProtocol protocol .tables
+
+-- The mapping text, read for its messages.
+abbrev pub mapped : List ℕ → List ℕ → Mapped
+mapped protocol mapping = mappedFor (tablesOf protocol) mapping
 
 -- Every judgement of this protocol and this mapping answers `fit`.
 abbrev pub JudgedFit : List ℕ → List ℕ → Type 0
