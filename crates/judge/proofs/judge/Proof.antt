@@ -1,35 +1,27 @@
+-- `judge::judge` meets its contract.
 use borrow.Author.Needs.{needs}
+use Rattle.plan.proofs.PlanLaws.{call-ready}
+use Rattle.judge.proofs.JudgeLaws.{call-refused, call-accepted}
 use Rattle.judge.proofs.judge.Statement.{statement}
 use Rattle.judge.proofs.judge.Tie as tie
-use Rattle.judge.proofs.judge.Reads as reads
-use Rattle.judge.proofs.judge.Lts as lts
-use Rattle.answers.proofs.refused.Reads as refused-reads
-use Rattle.judge.proofs.judge_mapping.Reads as judge-mapping-reads
-use Rattle.protocol.proofs.read_protocol.Reads as read-protocol-reads
 
--- src/lib.rt:46:9
 read-protocol-requires : tie.Need-read-protocol-requires
 read-protocol-requires c κs = search needs
 
--- src/lib.rt:48:9
 refused-requires : tie.Need-refused-requires
 refused-requires c κs = search needs
 
--- src/lib.rt:48:9
 returns : tie.Need-returns
-returns c = ?
+returns c = call-refused (c .before .before .before .before .before .before .before .args .protocol .now) (c .before .before .before .before .before .before .before .args .mapping .now) (c .before .before .before .read-protocol .result) (c .before .before .before .read-protocol .ensures) (c .before .if1 .taken) _ _ (c .refused .ensures)
 
--- src/lib.rt:51:5
 judge-mapping-requires : tie.Need-judge-mapping-requires
-judge-mapping-requires c κs = ?
+judge-mapping-requires c κs = call-ready (c .before .before .before .before .before .before .before .before .args .protocol .now) (c .before .before .before .before .read-protocol .result) (c .before .before .before .before .read-protocol .ensures) (c .before .before .if1 .left)
 
--- src/lib.rt:43:1
 same-length : tie.Need-same-length
 same-length c = search needs
 
--- src/lib.rt:43:1
 returns-2 : tie.Need-returns-2
-returns-2 c = ?
+returns-2 c = call-accepted (c .before .before .before .before .before .before .before .before .before .before .before .args .protocol .now) (c .before .before .before .before .before .before .before .before .before .before .before .args .mapping .now) (c .before .before .before .before .before .before .before .read-protocol .result) (c .before .before .before .before .before .before .before .read-protocol .ensures) (c .before .before .before .before .before .if1 .left) _ _ _ (c .before .before .judge-mapping .ensures)
 
 pub judge-spec : {M : Type 1} → statement M
 judge-spec =
