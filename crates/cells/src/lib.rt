@@ -399,7 +399,7 @@ fn judged(at: Reading, cells: [Cell; 512], count: usize) -> CellLine
         return refused(10);
     }
     let cell = at.cell;
-    if tables::any_clash(cells, count, cell) {
+    if conflicts::any_clash(cells, count, cell) {
         return refused(11);
     }
     CellLine {

@@ -1,6 +1,6 @@
 pub mod Gather
-pub mod Clashes
-pub mod AtCell
+pub mod Apart
+pub mod Adding
 pub mod AllCells
 pub mod InRange
 pub mod Stored
