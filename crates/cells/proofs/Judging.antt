@@ -22,11 +22,12 @@ use Rattle.records.proofs.Numbers.{eightOf, lineNumber, refuses}
 use Rattle.records.proofs.Sections.{a-cell}
 use Rattle.cells.specs.declared.Reading.{Reading}
 use Rattle.cells.specs.declared.CellLine.{CellLine}
-use Rattle.cells.specs.declared.Shape.the-variants.{Wrong}
-use Rattle.cells.specs.Shape.{shapeOf}
+use Rattle.shapes.specs.declared.Shape.the-variants.{Wrong}
+use Rattle.shapes.specs.Shape.{shapeOf}
 use Rattle.cells.specs.Known.{CellRead}
-use Rattle.cells.specs.Told.{Declared, CellTold, refusedLine, judgedNumber, Judged}
-use Rattle.cells.proofs.Shapes.{wrong-shape}
+use Rattle.tables.specs.Given.{Declared}
+use Rattle.cells.specs.Told.{CellTold, refusedLine, judgedNumber, Judged}
+use Rattle.shapes.proofs.Shapes.{wrong-shape}
 
 -- ---- what is read of the line
 

@@ -1,14 +1,13 @@
 -- The cell that a line stands for, from the place that it names and where it goes to.
 use Prim.Native.Nat.{ℕ, zero, suc, _≤_, _<_}
 use mathlib.Core.Path.{_≡_, refl, sym, ap, ap₂, _∙_}
-use mathlib.Core.Bool.{Bool, true, false, _&&_, _||_, cond, and-assoc, and-false}
+use mathlib.Core.Bool.{Bool, true, false, _&&_, _||_, cond, and-assoc}
 use mathlib.Core.List.{List, [], _∷_}
 use native.Mathlib.Omega.{arith}
 use lib.ListN.{length, getD, take, drop-of-length-le}
 use lib.Seq.{getD-take}
 use Rattle.rules.specs.declared.Message.{Message}
 use Rattle.rules.specs.declared.State.{State}
-use Rattle.text.specs.Parts.{firstIndex}
 use Rattle.text.specs.Words.{stallWord}
 use Rattle.tables.specs.declared.Controller.{Controller}
 use Rattle.tables.specs.declared.Stability.{Stability}
@@ -21,106 +20,20 @@ use Rattle.tables.specs.declared.StateRow.{StateRow}
 use Rattle.tables.specs.declared.Cell.{Cell}
 use Rattle.tables.specs.declared.Tables.{Tables}
 use Rattle.tables.specs.Tables.{noState}
-use Rattle.names.specs.declared.FoundState.{FoundState}
-use Rattle.names.specs.declared.FoundState.the-variants.{At as StateAt, Nothing as NoState}
-use Rattle.names.specs.Names.{stateNamed, stateAt, isState, foundState}
-use Rattle.names.proofs.Look.{state-at}
-use Rattle.records.specs.Line.{Line, field, says, cell, cellController, triggerOf, sentFields, sentOf, cellOf}
+use Rattle.tables.specs.Given.{Declared}
+use Rattle.tables.proofs.Given.{messages-are, states-are}
+use Rattle.names.specs.Names.{stateAt, isState}
+use Rattle.records.specs.Line.{Line, field, says, cell, cellController, sentFields, sentOf, cellOf}
 use Rattle.records.specs.Checks.{isTrigger, allMessages, knownCell, isStable, inStable, stallInStable}
-use Rattle.cells.specs.declared.FoundTrigger.{FoundTrigger}
-use Rattle.cells.specs.declared.FoundTrigger.the-variants.{At, Nothing}
-use Rattle.cells.specs.declared.Sent.{Sent}
-use Rattle.cells.specs.declared.Place.{Place}
-use Rattle.cells.specs.declared.Target.{Target}
+use Rattle.shapes.specs.Shape.{Stalls, Goes}
+use Rattle.places.specs.declared.Place.{Place}
+use Rattle.places.specs.Place.{PlaceTold}
+use Rattle.places.proofs.Placed.{never}
+use Rattle.targets.specs.declared.Target.{Target}
+use Rattle.targets.specs.Target.{TargetTold, sentFrom}
+use Rattle.targets.proofs.Sending.{noMessages}
 use Rattle.cells.specs.declared.Reading.{Reading}
-use Rattle.cells.specs.Shape.{Stalls, Goes}
-use Rattle.cells.specs.Told.{Declared}
-use Rattle.cells.specs.Known.{TriggerTold, SentTold, PlaceTold, TargetTold, CellRead, sentFrom}
-use Rattle.cells.proofs.Named.{state-known, state-unknown, trigger-known, trigger-unknown, messages-are, events-are, states-are}
-use Rattle.cells.proofs.Sending.{noMessages}
-
-never : (b : Bool) → b ≡ false → b ≡ true → ⊥
-never b e f = let z : _≡_ {A = ℕ} 0 1 = cc in omega arith
-
--- ---- the place
-
-module _ (f : Line) (whose : Controller)
-    (messages : List MessageRow) (message-count : ℕ) (events : List EventRow) (event-count : ℕ) (states : List StateRow) (state-count : ℕ)
-    (r : FoundState) (e : r ≡ foundState (firstIndex (stateNamed whose (field f 2)) (take state-count states)) state-count) where
-  unplaced : (v : Place) → v .known ≡ false
-      → ((t : Tables) → Declared t messages message-count events event-count states state-count
-      → (isState t whose (field f 2) && isTrigger t whose (field f 3)) ≡ false)
-      → PlaceTold f whose messages message-count events event-count states state-count v
-  unplaced v k h =
-      record {
-        known = λ t d. k ∙ sym (h t d);
-        state = λ t d b. absurd (never (v .known) k b);
-        trigger = λ t d b. absurd (never (v .known) k b);
-        below = λ b. absurd (never (v .known) k b);
-      }
-
-  pub no-state : (v : Place) → v .known ≡ false → r ≡ NoState → PlaceTold f whose messages message-count events event-count states state-count v
-  no-state v k q =
-      unplaced v k
-      (λ t d. ap (λ (b : Bool). b && isTrigger t whose (field f 3))
-      (state-unknown t states state-count (states-are t messages message-count events event-count states state-count d) whose (field f 2) r e q))
-
-  module _ (s : FoundTrigger) (told : TriggerTold (field f 3) whose messages message-count events event-count s) where
-    pub no-trigger : (v : Place) → v .known ≡ false → s ≡ Nothing → PlaceTold f whose messages message-count events event-count states state-count v
-    no-trigger v k q =
-        unplaced v k
-        (λ t d. ap (λ (b : Bool). isState t whose (field f 2) && b)
-        (trigger-unknown (isTrigger t whose (field f 3)) (triggerOf t (field f 3)) s
-        (told .told t (messages-are t messages message-count events event-count states state-count d) (events-are t messages message-count events event-count states state-count d)) q)
-        ∙ and-false (isState t whose (field f 2)))
-
-    pub placed : (v : Place) → v .known ≡ true → r ≡ StateAt (v .state) → s ≡ At (v .trigger)
-        → PlaceTold f whose messages message-count events event-count states state-count v
-    placed v k p q =
-        record {
-          known = λ t d. k ∙ sym (ap₂ (λ (a b : Bool). a && b) (own t d .0) (on t d .0));
-          state = λ t d b. own t d .1;
-          trigger = λ t d b. on t d .1;
-          below = λ b. (let h = state-at (firstIndex (stateNamed whose (field f 2)) (take state-count states)) state-count (v .state) (sym e ∙ p) in omega arith);
-        }
-      where
-        own : (t : Tables) → Declared t messages message-count events event-count states state-count
-            → (isState t whose (field f 2) ≡ true) × (v .state ≡ record { 0 = stateAt t whose (field f 2) })
-        own t d = state-known t states state-count (states-are t messages message-count events event-count states state-count d) whose (field f 2) r (v .state) e p
-
-        on : (t : Tables) → Declared t messages message-count events event-count states state-count
-            → (isTrigger t whose (field f 3) ≡ true) × (v .trigger ≡ triggerOf t (field f 3))
-        on t d =
-            trigger-known (isTrigger t whose (field f 3)) (triggerOf t (field f 3)) (v .trigger) s
-            (told .told t (messages-are t messages message-count events event-count states state-count d) (events-are t messages message-count events event-count states state-count d)) q
-
--- ---- where it goes to
-
-module _ (f : Line) (whose : Controller) (messages : List MessageRow) (message-count : ℕ) (states : List StateRow) (state-count : ℕ)
-    (r : FoundState) (e : r ≡ foundState (firstIndex (stateNamed whose (field f 5)) (take state-count states)) state-count) where
-  pub no-next : (v : Target) → v .known ≡ false → r ≡ NoState → TargetTold f whose messages message-count states state-count v
-  no-next v k q =
-      record {
-        known = λ t am own. k ∙ sym (ap (λ (b : Bool). b && allMessages t (sentFields f)) (state-unknown t states state-count own whose (field f 5) r e q));
-        next = λ t am own b. absurd (never (v .known) k b);
-        sent = λ t am b. absurd (never (v .known) k b);
-        count = λ b. absurd (never (v .known) k b);
-      }
-
-  pub targeted : (s : Sent) (v : Target) → SentTold (sentFields f) messages message-count s → v .known ≡ s .known → v .sent ≡ s .sent → v .count ≡ s .count
-      → r ≡ StateAt (v .next) → TargetTold f whose messages message-count states state-count v
-  unfolding sentOf
-  targeted s v told k l n p =
-      record {
-        known = λ t am own.
-            k ∙ told .known t am
-            ∙ sym (ap (λ (b : Bool). b && allMessages t (sentFields f)) (state-known t states state-count own whose (field f 5) r (v .next) e p .0));
-        next = λ t am own b. state-known t states state-count own whose (field f 5) r (v .next) e p .1;
-        sent = λ t am b. l ∙ told .sent t am (sym k ∙ b);
-        count = λ b. n ∙ told .count (sym k ∙ b);
-      }
-
--- ---- the cell
+use Rattle.cells.specs.Known.{CellRead}
 
 same-cell : {s s′ : State} {k k′ : Trigger} {o o′ : Outcome} {l l′ : List Message} {n n′ : ℕ} → s ≡ s′ → k ≡ k′ → o ≡ o′ → l ≡ l′ → n ≡ n′
     → _≡_ {A = Cell} (record { state = s; trigger = k; outcome = o; sent = l; «sent_count» = n })

@@ -6,3 +6,4 @@ pub mod InRange
 pub mod Stored
 pub mod Determined
 pub mod Bell
+pub mod Given

@@ -1,7 +1,7 @@
 -- `cells::go_of` meets its contract.
 use borrow.Author.Tests.{not-true, not-false}
 use Rattle.text.specs.Parts.{split}
-use Rattle.cells.proofs.Shapes.{count-short}
+use Rattle.shapes.proofs.Shapes.{count-short}
 use Rattle.cells.proofs.Whole.{not-placed, not-targeted, going}
 use borrow.Author.Needs.{needs}
 use native.Mathlib.Omega.{arith}

@@ -20,8 +20,8 @@ use Rattle.records.specs.Found.{foundController}
 use Rattle.records.proofs.Fields.{few, counted, many}
 use Rattle.records.proofs.Words.{controller-is, controller-nothing}
 use Rattle.records.proofs.Sections.{other-word}
-use Rattle.cells.specs.declared.Shape.the-variants.{Stall, Go, Wrong}
-use Rattle.cells.specs.Shape.{shapeOf, Stalls, Goes}
+use Rattle.shapes.specs.declared.Shape.the-variants.{Stall, Go, Wrong}
+use Rattle.shapes.specs.Shape.{shapeOf, Stalls, Goes}
 
 -- ---- both tests hold
 

@@ -28,10 +28,10 @@ use Rattle.names.specs.Names.{messageNamed, eventNamed, stateNamed, messageAt, 
 use Rattle.records.specs.Line.{messageNo, triggerOf}
 use Rattle.records.specs.Checks.{isTrigger, isCache}
 use Rattle.records.proofs.Words.{found-is, found-nothing}
-use Rattle.cells.specs.declared.FoundTrigger.{FoundTrigger}
-use Rattle.cells.specs.declared.FoundTrigger.the-variants.{At, Nothing}
-use Rattle.cells.specs.Told.{Declared}
-use Rattle.cells.specs.Known.{MessagesAre, EventsAre, StatesAre, foundTrigger, eventTrigger, TriggerTold}
+use Rattle.places.specs.declared.FoundTrigger.{FoundTrigger}
+use Rattle.places.specs.declared.FoundTrigger.the-variants.{At, Nothing}
+use Rattle.tables.specs.Given.{MessagesAre, EventsAre, StatesAre}
+use Rattle.places.specs.Place.{foundTrigger, eventTrigger, TriggerTold}
 
 -- ---- messages
 
@@ -142,16 +142,3 @@ trigger-known b k l r e q =
 pub trigger-unknown : (b : Bool) (k : Trigger) (r : FoundTrigger) → r ≡ foundTrigger b k → r ≡ Nothing → b ≡ false
 trigger-unknown b k r e q =
     found-nothing At Nothing (λ a c p. cc) (λ a p. let z : _≡_ {A = ℕ} 0 1 = cc in omega arith) b k (sym q ∙ e)
-
--- ---- the parts of what is declared
-
-module _ (t : Tables) (messages : List MessageRow) (message-count : ℕ) (events : List EventRow) (event-count : ℕ) (states : List StateRow) (state-count : ℕ)
-    (d : Declared t messages message-count events event-count states state-count) where
-  pub messages-are : MessagesAre t messages message-count
-  messages-are = record { rows = d .messages-are; many = d .messages-many }
-
-  pub events-are : EventsAre t events event-count
-  events-are = record { rows = d .events-are; many = d .events-many }
-
-  pub states-are : StatesAre t states state-count
-  states-are = record { rows = d .states-are; many = d .states-many }

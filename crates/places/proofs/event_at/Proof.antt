@@ -1,11 +1,11 @@
--- `cells::event_at` meets its contract.
+-- `places::event_at` meets its contract.
 use lib.ListN.{take}
 use Rattle.text.specs.Parts.{firstIndex}
 use Rattle.names.specs.Names.{eventNamed}
-use Rattle.cells.proofs.Named.{event-found, event-not-found}
+use Rattle.places.proofs.Named.{event-found, event-not-found}
 use borrow.Author.Needs.{needs}
-use Rattle.cells.proofs.event_at.Statement.{statement}
-use Rattle.cells.proofs.event_at.Tie as tie
+use Rattle.places.proofs.event_at.Statement.{statement}
+use Rattle.places.proofs.event_at.Tie as tie
 
 event-named-requires : tie.Need-event-named-requires
 event-named-requires c κs = search needs

@@ -1,12 +1,12 @@
--- `cells::trigger_at` meets its contract.
+-- `places::trigger_at` meets its contract.
 use mathlib.Core.Path.{sym, subst}
 use Rattle.tables.specs.declared.Controller.{Controller}
-use Rattle.cells.specs.declared.FoundTrigger.the-variants.{Nothing}
-use Rattle.cells.specs.Known.{TriggerTold}
-use Rattle.cells.proofs.Named.{on-message, on-dir, on-event}
+use Rattle.places.specs.declared.FoundTrigger.the-variants.{Nothing}
+use Rattle.places.specs.Place.{TriggerTold}
+use Rattle.places.proofs.Named.{on-message, on-dir, on-event}
 use borrow.Author.Needs.{needs}
-use Rattle.cells.proofs.trigger_at.Statement.{statement}
-use Rattle.cells.proofs.trigger_at.Tie as tie
+use Rattle.places.proofs.trigger_at.Statement.{statement}
+use Rattle.places.proofs.trigger_at.Tie as tie
 
 message-named-requires : tie.Need-message-named-requires
 message-named-requires c κs = search needs

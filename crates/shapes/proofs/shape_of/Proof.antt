@@ -1,12 +1,12 @@
--- `cells::shape_of` meets its contract.
+-- `shapes::shape_of` meets its contract.
 use mathlib.Core.Path.{sym, _∙_}
 use Rattle.text.specs.Parts.{split}
 use Rattle.records.proofs.Fields.{counted}
-use Rattle.cells.proofs.Shapes.{count-long, too-short, too-long, no-controller, five-stall, five-other, more-go, more-other}
+use Rattle.shapes.proofs.Shapes.{count-long, too-short, too-long, no-controller, five-stall, five-other, more-go, more-other}
 use borrow.Author.Needs.{needs}
 use native.Mathlib.Omega.{arith}
-use Rattle.cells.proofs.shape_of.Statement.{statement}
-use Rattle.cells.proofs.shape_of.Tie as tie
+use Rattle.shapes.proofs.shape_of.Statement.{statement}
+use Rattle.shapes.proofs.shape_of.Tie as tie
 
 returns : tie.Need-returns
 returns c = too-short (split 9 (c .before .before .args .line .now)) (omega (arith, counted (c .before .before .args .line .now) (c .before .before .args .f) (c .before .before .pre) (omega arith)))

@@ -1,15 +1,15 @@
--- `cells::place_of` meets its contract.
+-- `places::place_of` meets its contract.
 use Prim.Native.Nat.{ℕ}
 use mathlib.Core.Path.{refl, ap, subst, _∙_}
 use mathlib.Core.List.{List}
 use lib.ListN.{take}
 use Rattle.text.specs.Parts.{split, firstIndex}
 use Rattle.names.specs.Names.{stateNamed, foundState}
-use Rattle.cells.specs.Known.{TriggerTold}
-use Rattle.cells.proofs.Whole.{no-state, no-trigger, placed}
+use Rattle.places.specs.Place.{TriggerTold}
+use Rattle.places.proofs.Placed.{no-state, no-trigger, placed}
 use borrow.Author.Needs.{needs}
-use Rattle.cells.proofs.place_of.Statement.{statement}
-use Rattle.cells.proofs.place_of.Tie as tie
+use Rattle.places.proofs.place_of.Statement.{statement}
+use Rattle.places.proofs.place_of.Tie as tie
 
 field-at-requires : tie.Need-field-at-requires
 field-at-requires c κs = search needs

@@ -7,8 +7,8 @@ use Rattle.text.specs.Words.{stallWord}
 use Rattle.tables.specs.declared.Controller.{Controller}
 use Rattle.records.specs.Line.{Line, field, says, cell, isController, cellController}
 use Rattle.records.specs.Checks.{shaped, stallShape, goShape}
-use Rattle.cells.specs.declared.Shape.{Shape}
-use Rattle.cells.specs.declared.Shape.the-variants.{Stall, Go, Wrong}
+use Rattle.shapes.specs.declared.Shape.{Shape}
+use Rattle.shapes.specs.declared.Shape.the-variants.{Stall, Go, Wrong}
 
 unfoldable pub shapeOf : Line → Shape
 shapeOf f =

@@ -16,9 +16,10 @@ use Rattle.names.specs.declared.FoundMessage.the-variants.{At as MessageAt, Not
 use Rattle.names.specs.Names.{messageNamed, isMessage, foundMessage}
 use Rattle.records.specs.Line.{messageNo}
 use Rattle.records.specs.Checks.{allMessages}
-use Rattle.cells.specs.declared.Sent.{Sent}
-use Rattle.cells.specs.Known.{MessagesAre, SentTold}
-use Rattle.cells.proofs.Named.{message-known, message-unknown}
+use Rattle.targets.specs.declared.Sent.{Sent}
+use Rattle.tables.specs.Given.{MessagesAre}
+use Rattle.targets.specs.Target.{SentTold}
+use Rattle.places.proofs.Named.{message-known, message-unknown}
 
 abbrev pub noMessages : List Message
 noMessages = replicate 8 (record { 0 = 0 })

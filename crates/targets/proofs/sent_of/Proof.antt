@@ -1,4 +1,4 @@
--- `cells::sent_of` meets its contract.
+-- `targets::sent_of` meets its contract.
 use Prim.Native.Nat.{ℕ, _-_, _≤_}
 use mathlib.Core.Path.{refl, sym, ap, _∙_}
 use mathlib.Core.List.{List, []}
@@ -8,11 +8,11 @@ use Rattle.text.specs.Parts.{split, firstIndex}
 use Rattle.names.specs.Names.{messageNamed, foundMessage}
 use Rattle.records.specs.Line.{sentFields}
 use Rattle.records.proofs.Fields.{counted}
-use Rattle.cells.proofs.Sending.{Sending, sending-none, sending-more, sending-stops, sending-all}
+use Rattle.targets.proofs.Sending.{Sending, sending-none, sending-more, sending-stops, sending-all}
 use borrow.Author.Needs.{needs}
 use native.Mathlib.Omega.{arith}
-use Rattle.cells.proofs.sent_of.Statement.{statement}
-use Rattle.cells.proofs.sent_of.Tie as tie
+use Rattle.targets.proofs.sent_of.Statement.{statement}
+use Rattle.targets.proofs.sent_of.Tie as tie
 
 abbrev Inv-loop : tie.InvT-loop
 Inv-loop line f messages message-count n sent₀ j₀ sent j = (j ≤ n) × Sending (sentFields (split 9 line)) messages message-count j sent
