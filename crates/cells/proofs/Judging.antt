@@ -20,11 +20,11 @@ use Rattle.records.specs.Line.{Line, says, cell}
 use Rattle.records.specs.Checks.{shaped, knownCell, stallInStable, conflict}
 use Rattle.records.proofs.Numbers.{eightOf, lineNumber, refuses}
 use Rattle.records.proofs.Sections.{a-cell}
-use Rattle.cells.specs.declared.Reading.{Reading}
+use Rattle.readings.specs.declared.Reading.{Reading}
 use Rattle.cells.specs.declared.CellLine.{CellLine}
 use Rattle.shapes.specs.declared.Shape.the-variants.{Wrong}
 use Rattle.shapes.specs.Shape.{shapeOf}
-use Rattle.cells.specs.Known.{CellRead}
+use Rattle.readings.specs.Known.{CellRead}
 use Rattle.tables.specs.Given.{Declared}
 use Rattle.cells.specs.Told.{CellTold, refusedLine, judgedNumber, Judged}
 use Rattle.shapes.proofs.Shapes.{wrong-shape}

@@ -1,4 +1,3 @@
-pub mod Whole
 pub mod Judging
 pub mod Determined
 pub mod InRange

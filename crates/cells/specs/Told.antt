@@ -16,7 +16,7 @@ use Rattle.tables.specs.Clash.{anyClash}
 use Rattle.tables.specs.Given.{Declared}
 use Rattle.records.specs.Line.{cellOf}
 use Rattle.records.specs.Told.{Refuses}
-use Rattle.cells.specs.declared.Reading.{Reading}
+use Rattle.readings.specs.declared.Reading.{Reading}
 use Rattle.cells.specs.declared.CellLine.{CellLine}
 
 pub record CellTold

@@ -1,12 +1,12 @@
--- `cells::in_stable` meets its contract.
+-- `readings::in_stable` meets its contract.
 use lib.ListN.{length}
 use mathlib.Core.Path.{_≡_}
 use Rattle.tables.specs.declared.Stability.the-variants.{Stable, Transient}
-use Rattle.cells.proofs.Whole.{stable-at}
+use Rattle.readings.proofs.Whole.{stable-at}
 use borrow.Author.Needs.{needs}
 use native.Mathlib.Omega.{arith}
-use Rattle.cells.proofs.in_stable.Statement.{statement}
-use Rattle.cells.proofs.in_stable.Tie as tie
+use Rattle.readings.proofs.in_stable.Statement.{statement}
+use Rattle.readings.proofs.in_stable.Tie as tie
 
 index-requires : tie.Need-index-requires
 index-requires c κs = search needs

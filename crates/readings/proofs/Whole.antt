@@ -1,7 +1,7 @@
 -- The cell that a line stands for, from the place that it names and where it goes to.
 use Prim.Native.Nat.{ℕ, zero, suc, _≤_, _<_}
 use mathlib.Core.Path.{_≡_, refl, sym, ap, ap₂, _∙_}
-use mathlib.Core.Bool.{Bool, true, false, _&&_, _||_, cond, and-assoc}
+use mathlib.Core.Bool.{Bool, true, false, _&&_, _||_, cond, and-assoc, true≢false}
 use mathlib.Core.List.{List, [], _∷_}
 use native.Mathlib.Omega.{arith}
 use lib.ListN.{length, getD, take, drop-of-length-le}
@@ -19,7 +19,7 @@ use Rattle.tables.specs.declared.EventRow.{EventRow}
 use Rattle.tables.specs.declared.StateRow.{StateRow}
 use Rattle.tables.specs.declared.Cell.{Cell}
 use Rattle.tables.specs.declared.Tables.{Tables}
-use Rattle.tables.specs.Tables.{noState}
+use Rattle.tables.specs.Tables.{noState, noCell}
 use Rattle.tables.specs.Given.{Declared}
 use Rattle.tables.proofs.Given.{messages-are, states-are}
 use Rattle.names.specs.Names.{stateAt, isState}
@@ -32,8 +32,8 @@ use Rattle.places.proofs.Placed.{never}
 use Rattle.targets.specs.declared.Target.{Target}
 use Rattle.targets.specs.Target.{TargetTold, sentFrom}
 use Rattle.targets.proofs.Sending.{noMessages}
-use Rattle.cells.specs.declared.Reading.{Reading}
-use Rattle.cells.specs.Known.{CellRead}
+use Rattle.readings.specs.declared.Reading.{Reading}
+use Rattle.readings.specs.Known.{noReading, CellRead}
 
 same-cell : {s s′ : State} {k k′ : Trigger} {o o′ : Outcome} {l l′ : List Message} {n n′ : ℕ} → s ≡ s′ → k ≡ k′ → o ≡ o′ → l ≡ l′ → n ≡ n′
     → _≡_ {A = Cell} (record { state = s; trigger = k; outcome = o; sent = l; «sent_count» = n })
@@ -49,12 +49,14 @@ module _ (f : Line) (whose : Controller)
   abbrev Decl : Tables → Type 0
   Decl t = Declared t messages message-count events event-count states state-count
 
-  unknown : (r : Reading) → r .known ≡ false → ((t : Tables) → Decl t → knownCell t f ≡ false) → Read r
-  unknown r k h =
+  unknown : (r : Reading) → r ≡ noReading → ((t : Tables) → Decl t → knownCell t f ≡ false) → Read r
+  unknown r z h =
+      let k : r .known ≡ false = ap (λ (x : Reading). x .known) z in
       record {
         known = λ t d. k ∙ sym (h t d);
         stuck = λ t d b. absurd (never (r .known) k b);
         cell = λ t d b. absurd (never (r .known) k b);
+        cleared = λ b. z;
       }
 
   -- what is known is known at the place and behind it
@@ -67,7 +69,7 @@ module _ (f : Line) (whose : Controller)
       ∙ and-assoc (isState t (cellController f) (field f 2)) (isTrigger t (cellController f) (field f 3))
       (says f 4 stallWord || (isState t (cellController f) (field f 5) && allMessages t (sentFields f))))
 
-  pub not-placed : (r : Reading) → whose ≡ cellController f → p .known ≡ false → r .known ≡ false → Read r
+  pub not-placed : (r : Reading) → whose ≡ cellController f → p .known ≡ false → r ≡ noReading → Read r
   not-placed r is k q =
       unknown r q
       (λ t d. parted t d is
@@ -79,7 +81,7 @@ module _ (f : Line) (whose : Controller)
   pub stalling : (b : Bool) → Stalls f whose → p .known ≡ true → b ≡ isStable (getD (take state-count states) (p .state .0) noState .stability)
       → Read (record { known = true; stuck = b; cell = record { state = p .state; trigger = p .trigger; outcome = Stall; sent = noMessages; «sent_count» = 0 } })
   unfolding inStable cellOf sentOf
-  stalling b s k e = record { known = know; stuck = stick; cell = is-cell }
+  stalling b s k e = record { known = know; stuck = stick; cell = is-cell; cleared = λ q. absurd (true≢false q) }
     where
       know : (t : Tables) → Decl t → true ≡ knownCell t f
       know t d =
@@ -112,7 +114,7 @@ module _ (f : Line) (whose : Controller)
         ∙ sym (to .known t (messages-are t messages message-count events event-count states state-count d) (states-are t messages message-count events event-count states state-count d)
         ∙ ap (λ (w : Controller). isState t w (field f 5) && allMessages t (sentFields f)) (s .is))
 
-    pub not-targeted : (r : Reading) → g .known ≡ false → r .known ≡ false → Read r
+    pub not-targeted : (r : Reading) → g .known ≡ false → r ≡ noReading → Read r
     not-targeted r e q = unknown r q (λ t d. left t d ∙ e)
 
     pub going : g .known ≡ true
@@ -122,7 +124,7 @@ module _ (f : Line) (whose : Controller)
           cell = record { state = p .state; trigger = p .trigger; outcome = Go (g .next); sent = g .sent; «sent_count» = g .count };
         })
     unfolding cellOf
-    going e = record { known = λ t d. sym (left t d ∙ e); stuck = λ t d q. sym (ap (λ (a : Bool). a && inStable t f) (s .word)); cell = is-cell }
+    going e = record { known = λ t d. sym (left t d ∙ e); stuck = λ t d q. sym (ap (λ (a : Bool). a && inStable t f) (s .word)); cell = is-cell; cleared = λ q. absurd (true≢false q) }
       where
         is-cell : (t : Tables) → Decl t → true ≡ true
             → record { state = p .state; trigger = p .trigger; outcome = Go (g .next); sent = g .sent; «sent_count» = g .count } ≡ cellOf t f
@@ -146,3 +148,8 @@ pub stable-at : (states : List StateRow) (n i j : ℕ) (d : StateRow) (k : Stabi
 stable-at states n i j d k e h m q =
     sym (ap (λ (r : StateRow). isStable (r .stability)) (getD-take n states i noState h ∙ any-default states i noState d (omega arith) ∙ ap (λ (x : ℕ). getD states x d) (sym e))
     ∙ ap isStable q)
+
+-- ---- a line that is not read
+
+pub unread-is : (x : Cell) → x ≡ noCell → _≡_ {A = Reading} (record { known = false; stuck = false; cell = x }) noReading
+unread-is x e = cc

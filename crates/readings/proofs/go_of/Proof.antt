@@ -1,12 +1,12 @@
--- `cells::go_of` meets its contract.
+-- `readings::go_of` meets its contract.
 use borrow.Author.Tests.{not-true, not-false}
 use Rattle.text.specs.Parts.{split}
 use Rattle.shapes.proofs.Shapes.{count-short}
-use Rattle.cells.proofs.Whole.{not-placed, not-targeted, going}
+use Rattle.readings.proofs.Whole.{not-placed, not-targeted, going}
 use borrow.Author.Needs.{needs}
 use native.Mathlib.Omega.{arith}
-use Rattle.cells.proofs.go_of.Statement.{statement}
-use Rattle.cells.proofs.go_of.Tie as tie
+use Rattle.readings.proofs.go_of.Statement.{statement}
+use Rattle.readings.proofs.go_of.Tie as tie
 
 place-of-requires : tie.Need-place-of-requires
 place-of-requires c κs = (c .before .pre .0, omega (arith, c .before .pre .1 .some, c .before .pre .1 .few, count-short (c .before .args .line .now) (c .before .args .f) (c .before .pre .0) (c .before .pre .1 .few)), c .before .pre .2, c .before .pre .3, c .before .pre .4)
