@@ -30,7 +30,7 @@ small : (c : tie.After-index Inv-loop μ-loop) → c .index .result < 32
 small c =
     let e = long (c .before .before .before .before .before .before) in
     subst (λ (n : ℕ). n < 32) (sym (c .index .ensures))
-    (c .before .before .before .before .before .before .pre .sent _ (sent-in (c .before .before .before .before .before .before .args .d) (c .before .before .before .loop .i) (record { 0 = 0 }) (omega arith) (omega (arith, c .before .before .before .before .before .before .pre .few))))
+    (c .before .before .before .before .before .before .pre .sent _ (sent-in (c .before .before .before .before .before .before .args .d) _ (record { 0 = 0 }) (omega arith) (omega (arith, c .before .before .before .before .before .before .pre .few))))
 
 cast-n : tie.Need-cast-n Inv-loop μ-loop
 cast-n c = search needs
