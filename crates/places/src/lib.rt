@@ -80,7 +80,7 @@ pub fn place_of(
     ensures { λ r. ⌜ PlaceTold (split 9 (now (line .entry))) whose messages «message_count» events «event_count» states «state_count» r ⌝ }
 {
     let own = records::field_at(line, f, 2);
-    let found = names::state_named(states, state_count, whose, own);
+    let found = state_names::state_named(states, state_count, whose, own);
     let FoundState::At(state) = found else {
         return Place {
             known: false,

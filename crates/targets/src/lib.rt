@@ -72,7 +72,7 @@ pub fn target_of(
     ensures { λ r. ⌜ TargetTold (split 9 (now (line .entry))) whose messages «message_count» states «state_count» r ⌝ }
 {
     let to = records::field_at(line, f, 5);
-    let found = names::state_named(states, state_count, whose, to);
+    let found = state_names::state_named(states, state_count, whose, to);
     let FoundState::At(next) = found else {
         return Target {
             known: false,

@@ -1,5 +1,5 @@
--- `names::state_named` meets its contract.
+-- `state_names::state_named` meets its contract.
 use Rattle.names.specs.declared.FoundState.the-variants.{At as StateAt, Nothing as NoState}
 use mathlib.Core.Path.{_≡_, sym, _∙_}
 use mathlib.Core.Bool.{false}
 use Prim.Native.Nat.{ℕ, _≤_, _<_, _-_}
@@ -7,10 +7,10 @@ use lib.ListN.{getD}
 use native.Mathlib.Omega.{arith}
 use borrow.Author.Needs.{needs}
 use borrow.Author.Count.{below-more}
 use Rattle.names.specs.Names.{stateNamed}
 use Rattle.names.proofs.Look.{blankState, found-here, found-none}
-use Rattle.names.proofs.state_named.Statement.{statement}
-use Rattle.names.proofs.state_named.Tie as tie
+use Rattle.state_names.proofs.state_named.Statement.{statement}
+use Rattle.state_names.proofs.state_named.Tie as tie
 
 abbrev Inv-loop : tie.InvT-loop
 Inv-loop count controller part states i₀ i = (i ≤ count) × ((j : ℕ) → j < i → stateNamed controller part (getD states j blankState) ≡ false)

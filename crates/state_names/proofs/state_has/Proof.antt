@@ -1,12 +1,12 @@
--- `names::state_has` meets its contract.
+-- `state_names::state_has` meets its contract.
 use mathlib.Core.Path.{sym, ap, _∙_}
 use mathlib.Core.Bool.{Bool, _&&_}
 use borrow.Author.Tests.{not-true, not-false}
 use Rattle.text.specs.Parts.{sameText}
 use Rattle.text.specs.Name.{nameText}
 use borrow.Author.Needs.{needs}
-use Rattle.names.proofs.state_has.Statement.{statement}
-use Rattle.names.proofs.state_has.Tie as tie
+use Rattle.state_names.proofs.state_has.Statement.{statement}
+use Rattle.state_names.proofs.state_has.Tie as tie
 
 same-controller-requires : tie.Need-same-controller-requires
 same-controller-requires c κs = search needs
