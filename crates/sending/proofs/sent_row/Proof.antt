@@ -3,7 +3,7 @@ use Rattle.sending.proofs.AtCell.{sent-in}
 use lib.ListN.{length-map}
 use Prim.Native.Nat.{ℕ, _≤_, _<_, _-_}
 use mathlib.Core.Path.{_≡_, sym, subst, _∙_}
-use mathlib.Core.Logic.{_↔_}
+use mathlib.Core.Logic.{_⊎_, _↔_}
 use mathlib.Core.List.{map}
 use native.Mathlib.Omega.{arith}
 use lib.ListN.{take, length}
@@ -59,7 +59,7 @@ loop-again c =
     let h : c .before .before .before .before .loop .i < length (c .before .before .before .before .before .before .before .args .d .sent) = omega (arith, c .before .before .before .before .before .before .before .pre .few) in (
       search needs,
       λ b. gather-more number (λ y. b ≡ y) (Bit (c .before .before .before .before .loop .row) b) (Bit (c .with-bit .result) b) (c .before .before .before .before .before .before .before .args .d .sent) (c .before .before .before .before .loop .i) (record { 0 = 0 }) h
-          (rw (← c .before .index .ensures) (c .with-bit .ensures .bits b))
+          (subst (λ (k : ℕ). Bit (c .with-bit .result) b ↔ (Bit (c .before .before .before .before .loop .row) b ⊎ (b ≡ k))) (c .before .index .ensures) (c .with-bit .ensures .bits b))
           (c .before .before .before .before .loop .inv .1 b),
     )
 
