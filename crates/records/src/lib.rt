@@ -304,7 +304,7 @@ fn state_declared(
     requires { ⌜ FieldsAre (now line) f × (i < f .count) × (count ≤ 64) ⌝ }
     ensures { λ r. ⌜ r ≡ stateDeclared states count controller (field (split 9 (now (line .entry))) i) ⌝ }
 {
-    let found = names::state_named(states, count, controller, field_at(line, f, i));
+    let found = state_names::state_named(states, count, controller, field_at(line, f, i));
     match found {
         FoundState::At(_) => true,
         FoundState::Nothing => false,

@@ -101,8 +101,8 @@ pub fn plan_of(t: Tables) -> Planned
     ensures { λ r. ⌜ PlanIs (relationsOfTables t) r ⌝ }
 {
     let n = t.message_count;
-    let causes = tables::causes_rows(t);
-    let stalls = tables::stalls_rows(t);
+    let causes = causing::causes_rows(t);
+    let stalls = stalling::stalls_rows(t);
     let waits = waits_of(causes, stalls, n);
     plan_rows(waits, n)
 }
@@ -199,8 +199,8 @@ pub fn judge_of(t: Tables, networks: [Network; 32]) -> Judged
     ensures { λ r. ⌜ JudgedIs (relationsOfTables t) (mappingOf networks) r ⌝ }
 {
     let n = t.message_count;
-    let causes = tables::causes_rows(t);
-    let stalls = tables::stalls_rows(t);
+    let causes = causing::causes_rows(t);
+    let stalls = stalling::stalls_rows(t);
     let waits = waits_of(causes, stalls, n);
     let stalled = stalled_of(stalls, n);
     let steps = steps_of(waits, networks, stalled, n);
