@@ -1,4 +1,4 @@
--- `plan_listing::map_listing` meets its contract.
+-- `plan_maps::map_listing` meets its contract.
 use mathlib.Core.Path.{_≡_}
 use mathlib.Core.List.{List, _++_}
 use Prim.Native.Nat.{ℕ, _+_, _-_, _≤_}
@@ -8,12 +8,12 @@ use Rattle.text.specs.Words.{networksWord}
 use Rattle.text.specs.Written.{Wrote}
 use Rattle.mapping.specs.Text.{mapTexts}
 use Rattle.answers.proofs.Listings.{listing-refused, listing-written}
 use Rattle.plan_listing.specs.PlanText.{numberLine, classHead, classThree, firstNetworks}
 use Rattle.plan_listing.proofs.Growing.{front-room, rest-room, rest-start, then-part, then-end}
 use Rattle.plan_listing.proofs.Lines.{class-three-length}
 use borrow.Author.Needs.{needs}
-use Rattle.plan_listing.proofs.map_listing.Statement.{statement}
-use Rattle.plan_listing.proofs.map_listing.Tie as tie
+use Rattle.plan_maps.proofs.map_listing.Statement.{statement}
+use Rattle.plan_maps.proofs.map_listing.Tie as tie
 
 -- The line of the least count, the lines before the messages, the lines of the messages, and the listing.
 abbrev count : tie.Start → List ℕ

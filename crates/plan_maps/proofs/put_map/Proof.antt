@@ -1,4 +1,4 @@
--- `plan_listing::put_map` meets its contract.
+-- `plan_maps::put_map` meets its contract.
 use mathlib.Core.List.{List, _++_}
 use Prim.Native.Nat.{ℕ, _≤_}
 use lib.ListN.{length}
@@ -7,10 +7,10 @@ use Rattle.text.specs.Words.{mapWord, tab, newline}
 use Rattle.text.specs.Written.{decimal, Wrote}
 use Rattle.text.proofs.Written.{more-room, then-more}
 use Rattle.mapping.specs.Text.{mapFields}
 use Rattle.plan_listing.proofs.Growing.{front-room}
 use borrow.Author.Needs.{needs}
-use Rattle.plan_listing.proofs.put_map.Statement.{statement}
-use Rattle.plan_listing.proofs.put_map.Tie as tie
+use Rattle.plan_maps.proofs.put_map.Statement.{statement}
+use Rattle.plan_maps.proofs.put_map.Tie as tie
 
 -- The line up to its first tab, its name, its second tab, its network.
 abbrev first : List ℕ

@@ -1,13 +1,13 @@
--- `plan_listing::map_length` meets its contract.
+-- `plan_maps::map_length` meets its contract.
 use mathlib.Core.Path.{_≡_, sym, _∙_}
 use Prim.Native.Nat.{_≤_}
 use lib.ListN.{length, length-take, length-map}
 use native.Mathlib.Omega.{arith}
 use borrow.Author.Needs.{needs}
 use Rattle.text.specs.Name.{nameText}
 use Rattle.plan_listing.proofs.Lines.{map-line-length}
-use Rattle.plan_listing.proofs.map_length.Statement.{statement}
-use Rattle.plan_listing.proofs.map_length.Tie as tie
+use Rattle.plan_maps.proofs.map_length.Statement.{statement}
+use Rattle.plan_maps.proofs.map_length.Tie as tie
 
 -- a name keeps 24 bytes
 short : (c : tie.Start) → length (nameText (c .args .name)) ≤ 24

@@ -1,12 +1,12 @@
--- `plan_listing::tabbed_length` meets its contract.
+-- `plan_cycle::tabbed_length` meets its contract.
 use mathlib.Core.Path.{sym, _∙_}
 use Prim.Native.Nat.{_≤_}
 use lib.ListN.{length, length-take, length-map}
 use native.Mathlib.Omega.{arith}
 use borrow.Author.Needs.{needs}
 use Rattle.text.specs.Name.{nameText}
-use Rattle.plan_listing.proofs.tabbed_length.Statement.{statement}
-use Rattle.plan_listing.proofs.tabbed_length.Tie as tie
+use Rattle.plan_cycle.proofs.tabbed_length.Statement.{statement}
+use Rattle.plan_cycle.proofs.tabbed_length.Tie as tie
 
 -- a name keeps 24 bytes
 short : (c : tie.Start) → length (nameText (c .args .name)) ≤ 24

@@ -1,4 +1,4 @@
--- `plan_listing::maps_length` meets its contract.
+-- `plan_maps::maps_length` meets its contract.
 use mathlib.Core.Path.{_≡_, sym, ap, _∙_}
 use mathlib.Core.List.{[]}
 use Prim.Native.Nat.{ℕ, _+_, _-_, _*_, _≤_}
@@ -9,11 +9,11 @@ use Rattle.text.specs.Name.{nameText}
 use Rattle.tables.specs.declared.MessageRow.{MessageRow}
 use Rattle.tables.specs.declared.Kind.the-variants.{Req}
 use Rattle.mapping.specs.Text.{mapTexts}
 use Rattle.plan_listing.specs.PlanText.{mapLine, firstNetworks}
 use Rattle.plan_listing.specs.Lengths.{TextLength}
 use Rattle.plan_listing.proofs.Lines.{mapsTo, maps-longer}
-use Rattle.plan_listing.proofs.maps_length.Statement.{statement}
-use Rattle.plan_listing.proofs.maps_length.Tie as tie
+use Rattle.plan_maps.proofs.maps_length.Statement.{statement}
+use Rattle.plan_maps.proofs.maps_length.Tie as tie
 
 abbrev Inv-loop : tie.InvT-loop
 Inv-loop n messages networks total₀ i₀ total i = (i ≤ n) × TextLength (mapsTo messages networks i) (33 * i) total

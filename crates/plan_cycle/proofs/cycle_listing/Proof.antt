@@ -1,16 +1,16 @@
--- `plan_listing::cycle_listing` meets its contract.
+-- `plan_cycle::cycle_listing` meets its contract.
 use mathlib.Core.Path.{_≡_}
 use mathlib.Core.List.{List, _++_}
 use Prim.Native.Nat.{ℕ, _+_, _≤_}
 use lib.ListN.{length}
 use native.Mathlib.Omega.{arith}
 use Rattle.answers.proofs.Listings.{listing-refused, listing-written}
 use Rattle.plan_listing.specs.PlanText.{classHead, cycleLine, classTwo, firstMessages}
 use Rattle.plan_listing.proofs.Growing.{front-room, rest-room, rest-start, then-part, then-end}
 use Rattle.plan_listing.proofs.Lines.{class-two-length}
 use borrow.Author.Needs.{needs}
-use Rattle.plan_listing.proofs.cycle_listing.Statement.{statement}
-use Rattle.plan_listing.proofs.cycle_listing.Tie as tie
+use Rattle.plan_cycle.proofs.cycle_listing.Statement.{statement}
+use Rattle.plan_cycle.proofs.cycle_listing.Tie as tie
 
 -- The shown cycle, its line, and the listing.
 abbrev shown : tie.Start → List ℕ

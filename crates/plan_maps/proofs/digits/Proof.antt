@@ -1,9 +1,9 @@
--- `plan_listing::digits` meets its contract.
+-- `plan_maps::digits` meets its contract.
 use mathlib.Core.Path.{sym}
 use native.Mathlib.Omega.{arith}
 use Rattle.plan_listing.proofs.Lines.{digits-one, digits-two, digits-three}
-use Rattle.plan_listing.proofs.digits.Statement.{statement}
-use Rattle.plan_listing.proofs.digits.Tie as tie
+use Rattle.plan_maps.proofs.digits.Statement.{statement}
+use Rattle.plan_maps.proofs.digits.Tie as tie
 
 returns : tie.Need-returns
 returns c = record { exact = sym (digits-one (c .before .args .n) (omega arith)); few = omega arith }

@@ -1,4 +1,4 @@
--- `plan_listing::put_names` meets its contract.
+-- `plan_cycle::put_names` meets its contract.
 use mathlib.Core.Path.{_≡_, refl, subst}
 use mathlib.Core.List.{_++_}
 use Prim.Native.Nat.{ℕ, _+_, _-_, _≤_, _<_}
@@ -9,11 +9,11 @@ use Rattle.text.specs.Name.{nameText}
 use Rattle.text.specs.Words.{tab}
 use Rattle.text.specs.Written.{Wrote}
 use Rattle.text.proofs.Written.{wrote-length}
 use Rattle.plan_listing.specs.PlanText.{namesText, firstMessages}
 use Rattle.plan_listing.proofs.Growing.{next-start, next-room, next-end, next-put}
 use Rattle.plan_listing.proofs.Lines.{namesTo, names-more, names-fit, message-below, noRow, noStep}
-use Rattle.plan_listing.proofs.put_names.Statement.{statement}
-use Rattle.plan_listing.proofs.put_names.Tie as tie
+use Rattle.plan_cycle.proofs.put_names.Statement.{statement}
+use Rattle.plan_cycle.proofs.put_names.Tie as tie
 
 abbrev Inv-loop : tie.InvT-loop
 Inv-loop out₀ n messages cycle at₀ i₀ out at i = (i ≤ n) × (length out ≡ length out₀) × Wrote (namesTo messages cycle i) out₀ out at

@@ -1,4 +1,4 @@
--- `plan_listing::put_maps` meets its contract.
+-- `plan_maps::put_maps` meets its contract.
 use mathlib.Core.Path.{_≡_, refl, subst}
 use mathlib.Core.List.{_++_}
 use Prim.Native.Nat.{ℕ, _+_, _-_, _≤_}
@@ -8,11 +8,11 @@ use borrow.Author.Needs.{needs}
 use Rattle.text.specs.Written.{Wrote}
 use Rattle.text.proofs.Written.{wrote-length}
 use Rattle.mapping.specs.Text.{mapTexts}
 use Rattle.plan_listing.specs.PlanText.{firstNetworks}
 use Rattle.plan_listing.proofs.Growing.{next-start, next-room, next-end, next-put}
 use Rattle.plan_listing.proofs.Lines.{mapsTo, mapAt, maps-more, maps-fit, noRow, noNetwork}
-use Rattle.plan_listing.proofs.put_maps.Statement.{statement}
-use Rattle.plan_listing.proofs.put_maps.Tie as tie
+use Rattle.plan_maps.proofs.put_maps.Statement.{statement}
+use Rattle.plan_maps.proofs.put_maps.Tie as tie
 
 abbrev Inv-loop : tie.InvT-loop
 Inv-loop out₀ n messages networks at₀ i₀ out at i = (i ≤ n) × (length out ≡ length out₀) × Wrote (mapsTo messages networks i) out₀ out at

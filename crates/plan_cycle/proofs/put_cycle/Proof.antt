@@ -1,4 +1,4 @@
--- `plan_listing::put_cycle` meets its contract.
+-- `plan_cycle::put_cycle` meets its contract.
 use mathlib.Core.List.{List, _++_}
 use Prim.Native.Nat.{ℕ, _+_, _-_, _≤_}
 use lib.ListN.{length, take, drop}
@@ -6,11 +6,11 @@ use native.Mathlib.Omega.{arith}
 use Rattle.text.specs.Words.{cycleWord, newline}
 use Rattle.text.specs.Written.{Wrote}
 use Rattle.text.proofs.Written.{more-room, then-more}
 use Rattle.plan_listing.specs.PlanText.{namesText, cycleLine, firstMessages}
 use Rattle.plan_listing.proofs.Growing.{front-room, rest-room, rest-start, then-part, then-end}
 use borrow.Author.Needs.{needs}
-use Rattle.plan_listing.proofs.put_cycle.Statement.{statement}
-use Rattle.plan_listing.proofs.put_cycle.Tie as tie
+use Rattle.plan_cycle.proofs.put_cycle.Statement.{statement}
+use Rattle.plan_cycle.proofs.put_cycle.Tie as tie
 
 -- The names of the cycle.
 abbrev names : tie.Start → List ℕ

@@ -1,14 +1,14 @@
--- `plan_listing::names_length` meets its contract.
+-- `plan_cycle::names_length` meets its contract.
 use mathlib.Core.Path.{_≡_, refl, ap, _∙_}
 use Prim.Native.Nat.{ℕ, _+_, _-_, _*_, _≤_, _<_}
 use lib.ListN.{length, getD}
 use native.Mathlib.Omega.{arith}
 use borrow.Author.Needs.{needs}
 use Rattle.plan_listing.specs.PlanText.{namesText, firstMessages}
 use Rattle.plan_listing.specs.Lengths.{TextLength}
 use Rattle.plan_listing.proofs.Lines.{namesTo, names-longer, message-below}
-use Rattle.plan_listing.proofs.names_length.Statement.{statement}
-use Rattle.plan_listing.proofs.names_length.Tie as tie
+use Rattle.plan_cycle.proofs.names_length.Statement.{statement}
+use Rattle.plan_cycle.proofs.names_length.Tie as tie
 
 abbrev Inv-loop : tie.InvT-loop
 Inv-loop n messages cycle total₀ i₀ total i = (i ≤ n) × TextLength (namesTo messages cycle i) (25 * i) total

@@ -1,11 +1,11 @@
--- `plan_listing::put_name` meets its contract.
+-- `plan_cycle::put_name` meets its contract.
 use Rattle.text.specs.Name.{nameText}
 use Rattle.text.specs.Words.{tab}
 use Rattle.text.proofs.Written.{more-room, then-more}
 use Rattle.plan_listing.proofs.Growing.{front-room}
 use borrow.Author.Needs.{needs}
-use Rattle.plan_listing.proofs.put_name.Statement.{statement}
-use Rattle.plan_listing.proofs.put_name.Tie as tie
+use Rattle.plan_cycle.proofs.put_name.Statement.{statement}
+use Rattle.plan_cycle.proofs.put_name.Tie as tie
 
 slice-aggregate-put : tie.Need-slice-aggregate-put
 slice-aggregate-put c = search needs
