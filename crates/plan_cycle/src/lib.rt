@@ -26,14 +26,14 @@ fn names_length(messages: [MessageRow; 32], cycle: [Message; 32], n: usize) -> u
     ensures { λ r. ⌜ TextLength (namesText messages (firstMessages n cycle)) 800 r ⌝ }
 {
     let mut total = 0;
-    let mut i = 0;
-    while i < n {
-        let m = cycle[i];
+    let mut j = 0;
+    while j < n {
+        let m = cycle[j];
         let k = m.index();
         let row = messages[k];
         let name = row.name;
         total += tabbed_length(name);
-        i += 1;
+        j += 1;
     }
     total
 }

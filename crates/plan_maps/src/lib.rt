@@ -39,13 +39,13 @@ fn maps_length(messages: [MessageRow; 32], n: usize, networks: [Network; 32]) ->
     ensures { λ r. ⌜ TextLength (mapTexts (take n messages) (firstNetworks n networks)) 1056 r ⌝ }
 {
     let mut total = 0;
-    let mut i = 0;
-    while i < n {
-        let row = messages[i];
+    let mut j = 0;
+    while j < n {
+        let row = messages[j];
         let name = row.name;
-        let network = networks[i];
+        let network = networks[j];
         total += map_length(name, network);
-        i += 1;
+        j += 1;
     }
     total
 }

@@ -11,10 +11,10 @@ use Rattle.plan_cycle.proofs.names_length.Statement.{statement}
 use Rattle.plan_cycle.proofs.names_length.Tie as tie
 
 abbrev Inv-loop : tie.InvT-loop
-Inv-loop n messages cycle total₀ i₀ total i = (i ≤ n) × TextLength (namesTo messages cycle i) (25 * i) total
+Inv-loop n messages cycle total₀ j₀ total j = (j ≤ n) × TextLength (namesTo messages cycle j) (25 * j) total
 
 abbrev μ-loop : tie.MeasureT-loop
-μ-loop n messages cycle total₀ i₀ total i = n - i
+μ-loop n messages cycle total₀ j₀ total j = n - j
 
 -- there are 32 rows, and 32 places for messages
 rows : (c : tie.Start Inv-loop μ-loop) → length (c .args .t1) ≡ 32
@@ -35,7 +35,7 @@ index-requires c κs = search needs
 
 -- the message has a row
 below : (c : tie.After-index Inv-loop μ-loop) → c .index .result < 32
-below c = omega (arith, c .index .ensures, message-below _ (c .before .before .before .before .args .t2) (c .before .before .before .before .args .n) (c .before .before .before .loop .i) (omega arith) refl (c .before .before .before .before .pre .1))
+below c = omega (arith, c .index .ensures, message-below _ (c .before .before .before .before .args .t2) (c .before .before .before .before .args .n) (c .before .before .before .loop .j) (omega arith) refl (c .before .before .before .before .pre .1))
 
 mul-row : tie.Need-mul-row Inv-loop μ-loop
 mul-row c = omega (arith, below c)
@@ -49,8 +49,8 @@ tabbed-length-requires c κs = search needs
 add-total : tie.Need-add-total Inv-loop μ-loop
 add-total c = omega (arith, c .before .before .before .before .before .before .loop .inv .1 .few, c .tabbed-length .ensures .few)
 
-add-i : tie.Need-add-i Inv-loop μ-loop
-add-i c = omega arith
+add-j : tie.Need-add-j Inv-loop μ-loop
+add-j c = omega arith
 
 loop-less : tie.Need-loop-less Inv-loop μ-loop
 loop-less c = omega arith
@@ -58,14 +58,14 @@ loop-less c = omega arith
 loop-again : tie.Need-loop-again Inv-loop μ-loop
 loop-again c = (
   omega arith,
-  names-longer _ (c .before .before .before .before .before .before .before .args .t1) _ (c .before .before .before .before .before .before .before .args .t2) (c .before .before .before .before .before .before .loop .i) (omega (arith, places (c .before .before .before .before .before .before .before)))
+  names-longer _ (c .before .before .before .before .before .before .before .args .t1) _ (c .before .before .before .before .before .before .before .args .t2) (c .before .before .before .before .before .before .loop .j) (omega (arith, places (c .before .before .before .before .before .before .before)))
       _ (c .before .before .before .index .ensures) (omega (arith, rows (c .before .before .before .before .before .before .before), below (c .before .before .before)))
       _ _ (c .before .before .before .before .before .before .loop .inv .1) (c .tabbed-length .ensures),
 )
 
 returns : tie.Need-returns Inv-loop μ-loop
 returns c =
-    let e : c .before .loop .i ≡ c .before .before .args .n = omega arith in
+    let e : c .before .loop .j ≡ c .before .before .args .n = omega arith in
     record {
       exact = c .before .loop .inv .1 .exact ∙ ap (λ (i : ℕ). length (namesTo (c .before .before .args .t1) (c .before .before .args .t2) i)) e;
       few = omega (arith, c .before .loop .inv .1 .few);
@@ -84,7 +84,7 @@ names-length-spec =
     array-copy-out-row
     tabbed-length-requires
     add-total
-    add-i
+    add-j
     loop-less
     loop-again
     returns)

@@ -16,10 +16,10 @@ use Rattle.plan_maps.proofs.maps_length.Statement.{statement}
 use Rattle.plan_maps.proofs.maps_length.Tie as tie
 
 abbrev Inv-loop : tie.InvT-loop
-Inv-loop n messages networks total₀ i₀ total i = (i ≤ n) × TextLength (mapsTo messages networks i) (33 * i) total
+Inv-loop n messages networks total₀ j₀ total j = (j ≤ n) × TextLength (mapsTo messages networks j) (33 * j) total
 
 abbrev μ-loop : tie.MeasureT-loop
-μ-loop n messages networks total₀ i₀ total i = n - i
+μ-loop n messages networks total₀ j₀ total j = n - j
 
 -- there are 32 rows, and 32 networks
 rows : (c : tie.Start Inv-loop μ-loop) → length (c .args .t1) ≡ 32
@@ -47,8 +47,8 @@ map-length-requires c κs = search needs
 add-total : tie.Need-add-total Inv-loop μ-loop
 add-total c = omega (arith, c .before .before .before .before .before .loop .inv .1 .few, c .map-length .ensures .few)
 
-add-i : tie.Need-add-i Inv-loop μ-loop
-add-i c = omega arith
+add-j : tie.Need-add-j Inv-loop μ-loop
+add-j c = omega arith
 
 loop-less : tie.Need-loop-less Inv-loop μ-loop
 loop-less c = omega arith
@@ -56,13 +56,13 @@ loop-less c = omega arith
 loop-again : tie.Need-loop-again Inv-loop μ-loop
 loop-again c = (
   omega arith,
-  maps-longer _ _ (c .before .before .before .before .before .before .args .t1) (c .before .before .before .before .before .before .args .t3) (c .before .before .before .before .before .loop .i) (omega (arith, rows (c .before .before .before .before .before .before))) (omega (arith, networks (c .before .before .before .before .before .before)))
+  maps-longer _ _ (c .before .before .before .before .before .before .args .t1) (c .before .before .before .before .before .before .args .t3) (c .before .before .before .before .before .loop .j) (omega (arith, rows (c .before .before .before .before .before .before))) (omega (arith, networks (c .before .before .before .before .before .before)))
       _ _ (c .before .before .before .before .before .loop .inv .1) (c .map-length .ensures),
 )
 
 returns : tie.Need-returns Inv-loop μ-loop
 returns c =
-    let e : c .before .loop .i ≡ c .before .before .args .n = omega arith in
+    let e : c .before .loop .j ≡ c .before .before .args .n = omega arith in
     record {
       exact = c .before .loop .inv .1 .exact ∙ ap (λ (i : ℕ). length (mapsTo (c .before .before .args .t1) (c .before .before .args .t3) i)) e;
       few = omega (arith, c .before .loop .inv .1 .few);
@@ -80,7 +80,7 @@ maps-length-spec =
     array-copy-out-network
     map-length-requires
     add-total
-    add-i
+    add-j
     loop-less
     loop-again
     returns)
