@@ -3,16 +3,17 @@ use Prim.Native.Nat.{ℕ, _+_, _<_, _≤_, _^_, _/_, _%_}
 use mathlib.Core.Path.{_≡_, sym, subst}
 use mathlib.Core.Bool.{Bool, true, false}
 use mathlib.Core.Logic.{_⊎_, inl, inr, ⊎-elim, _≢_, _↔_}
-use mathlib.Core.List.{List}
+use mathlib.Core.List.{List, []}
 use native.Mathlib.Decide.{ℕ-discrete}
 use native.Mathlib.Omega.{arith}
-use lib.ListN.{getD}
-use Rattle.rules.specs.Rules.{Mapping}
-use Rattle.rows.specs.Rows.{Bit}
+use lib.ListN.{getD, replicate}
+use Rattle.rules.specs.Rules.{Mapping, Queues}
+use Rattle.rows.specs.Rows.{Bit, Rows, ofRows}
 use Rattle.rows.specs.Row.{With, Join}
 use Rattle.rows.proofs.Bits.{bit-zero}
+use Rattle.rows.proofs.Filling.{Filling, fill-each, fill-kept}
 use Rattle.relations.proofs.Tables.{StrayInv}
-use Rattle.verdicts.specs.Leaves.{StalledRow, Behind, WithBehind, QueuesRow}
+use Rattle.steps.specs.Steps.{StepsRows, StalledRow, Behind, WithBehind, QueuesRow}
 
 -- all rows are taken in
 pub stalled-end : (stalls : List ℕ) (n all a : ℕ) → n ≤ a → StrayInv stalls n all a → StalledRow stalls n all
@@ -22,18 +23,18 @@ stalled-end stalls n all a h inv k = (
 )
 
 module _ (φ : Mapping) (stalled m : ℕ) where
-  -- they differ and share a network, and the row tells of k
-  pub behind-told : (k : ℕ) (r : Bool) → m ≢ k → φ m ≡ φ k → (r ≡ true) ↔ Bit stalled k → (r ≡ true) ↔ Behind φ stalled m k
-  behind-told k r d s f = (λ e. record { differ = d; share = s; bit = f .0 e }, λ b. f .1 (b .bit))
-
   pub behind-yes : (k row r : ℕ) → Behind φ stalled m k → With row k r → WithBehind φ stalled m k row r
   behind-yes k row r h w j = (λ b. ⊎-elim inl (λ e. inr (e, h)) (w .bits j .0 b), λ x. w .bits j .1 (⊎-elim inl (λ y. inr (y .0)) x))
 
-  pub behind-no : (k row : ℕ) (r : Bool) → (r ≡ true) ↔ Behind φ stalled m k → r ≡ false → WithBehind φ stalled m k row row
-  behind-no k row r f e j = (inl, ⊎-elim (λ b. b) (λ y. absurd (not-so (f .1 (y .1)))))
+  pub behind-no : (k row : ℕ) → ¬ Behind φ stalled m k → WithBehind φ stalled m k row row
+  behind-no k row g j = (inl, ⊎-elim (λ b. b) (λ y. absurd (g (y .1))))
+
+  -- the row of stalled messages does not have k
+  pub behind-free : (k row : ℕ) (r : Bool) → (r ≡ true) ↔ Bit stalled k → r ≡ false → WithBehind φ stalled m k row row
+  behind-free k row r f e = behind-no k row (λ b. not-so (f .1 (b .bit)))
     where
       not-so : ¬ (r ≡ true)
-      not-so d = let z : _≡_ {A = ℕ} 0 1 = cc in omega arith
+      not-so d = absurd (let z : _≡_ {A = ℕ} 0 1 = cc in omega arith)
 
   -- the bits of the row are those below k behind which m queues
   pub record Queueing (k row : ℕ) : Type 0 where
@@ -68,3 +69,20 @@ steps-row waits φ stalled n m q r f j k = (
   λ b. ⊎-elim inl (λ x. inr (f k .0 x)) (j .bits k .0 b),
   λ x. j .bits k .1 (⊎-elim inl (λ y. inr (f k .1 y)) x),
 )
+
+pub steps-end : (waits stalls : List ℕ) (φ : Mapping) (stalled n : ℕ) (rows : List ℕ) (i : ℕ) → n ≤ i → StalledRow stalls n stalled
+    → Filling (IsSteps waits φ stalled n) n (replicate 32 0) rows i → StepsRows waits stalls φ n rows
+steps-end waits stalls φ stalled n rows i h s f = record { bits = bits; kept = fill-kept (IsSteps waits φ stalled n) n (replicate 32 0) rows i h f }
+  where
+    queues : (m k : ℕ) → m < n → (k < n) × Behind φ stalled m k → Queues (ofRows n [] stalls) φ m k
+    queues m k l x =
+        let a = s k .0 (x .1 .bit) in
+        record { m-message = l; k-message = x .0; differ = x .1 .differ; share = x .1 .share; stalled = (a .0, record { i-below = a .1; j-below = x .0; bit = a .2 }) }
+
+    behind : (m k : ℕ) → Queues (ofRows n [] stalls) φ m k → (k < n) × Behind φ stalled m k
+    behind m k q = (q .k-message, record { differ = q .differ; share = q .share; bit = s k .1 (q .stalled .0, q .stalled .1 .i-below, q .stalled .1 .bit) })
+
+    bits : (m k : ℕ) → m < n → Bit (getD rows m 0) k ↔ (Bit (getD waits m 0) k ⊎ Queues (ofRows n [] stalls) φ m k)
+    bits m k l =
+        let t = fill-each (IsSteps waits φ stalled n) n (replicate 32 0) rows i h f m l k in
+        (λ b. ⊎-elim inl (λ x. inr (queues m k l x)) (t .0 b), λ x. t .1 (⊎-elim inl (λ q. inr (behind m k q)) x))

@@ -8,40 +8,55 @@ use native.Mathlib.Omega.{arith}
 use lib.ListN.{getD, take, replicate}
 use Rattle.rules.specs.declared.Message.{Message}
 use Rattle.rules.specs.Walks.{Rel, Begins}
-use Rattle.rules.specs.Rules.{Relations, Mapping, Waits, Step}
+use Rattle.rules.specs.Rules.{Relations, Mapping, Waits, Queues, Step}
 use Rattle.rules.specs.Plan.{Closed, JudgeCycle}
 use Rattle.rules.specs.Promises.{Accepted}
 use Rattle.rules.proofs.Chains.{chain-map}
 use Rattle.rules.proofs.Same.{shown-same}
 use Rattle.rules.proofs.Decided.{step-within, unfit-closed}
-use Rattle.rows.specs.Rows.{Bit, Rows}
+use Rattle.rows.specs.Rows.{Bit, Rows, ofRows}
 use Rattle.walks.specs.Walks.{Within, Cycle}
 use Rattle.tables.specs.declared.Tables.{Tables}
 use Rattle.tables.specs.Cells.{relationsOfTables, TablesOk}
 use Rattle.tables.specs.Relations.{StallsRows}
-use Rattle.tables.proofs.InRange.{relations-accepted}
+use Rattle.tables.proofs.InRange.{relations-accepted, rows-stalls}
 use Rattle.verdicts.specs.Verdicts.{WaitsOf, MessagesPast, Fitting, Unfitting}
 use Rattle.verdicts.specs.declared.Judged.{Judged}
-use Rattle.verdicts.specs.Leaves.{asMessage, StalledRow, Behind, StepsRows, StepsOf, RowsJudged}
+use Rattle.verdicts.specs.Leaves.{asMessage}
+use Rattle.steps.specs.Steps.{StepsRows}
+use Rattle.judgement.specs.Judging.{StepsOf, RowsJudged}
 use Rattle.verdicts.proofs.Waiting.{rows-waits}
 use Rattle.verdicts.proofs.Written.{cycle-first, cycle-few, cycle-long, cycle-messages, cycle-past}
 
 -- ---- the rows of steps are those of the rules
 
-module _ (t : Tables) (ok : TablesOk t) (some : 0 < t .«message_count») (φ : Mapping) (stalls : List ℕ) (stalled : ℕ) (g : StallsRows t stalls) (s : StalledRow stalls (t .«message_count») stalled) where
-  pub steps-told : (waits steps : List ℕ) → WaitsOf (relationsOfTables t) waits → StepsRows waits φ stalled (t .«message_count») steps → StepsOf t φ steps
-  steps-told waits steps w f m k h = (
-    λ b. ⊎-elim (λ x. inl (w m k .0 x))
-        (λ x. let a = s k .0 (x .1 .bit) in inr (record { m-message = h; k-message = x .0; differ = x .1 .differ; share = x .1 .share; stalled = (a .0, g (a .0) k .0 (a .2)) }))
-        (f m k h .0 b),
-    λ x. f m k h .1 (⊎-elim (λ y. inl (w m k .1 y)) (λ q. inr (q .k-message, record { differ = q .differ; share = q .share; bit = told k (q .stalled .0) (q .stalled .1) })) x),
-  )
-    where
-      told : (k a : ℕ) → relationsOfTables t .stalls a k → Bit stalled k
-      told k a x = s k .1 (a, relations-accepted t ok some .stalls-messages a k x .0, g a k .1 x)
+module _ (t : Tables) (ok : TablesOk t) (some : 0 < t .«message_count») (φ : Mapping) (stalls : List ℕ) (g : StallsRows t stalls) where
+  queues-there : (m k : ℕ) → Queues (ofRows (t .«message_count») [] stalls) φ m k → Queues (relationsOfTables t) φ m k
+  queues-there m k q = record {
+    m-message = q .m-message;
+    k-message = q .k-message;
+    differ = q .differ;
+    share = q .share;
+    stalled = (q .stalled .0, rows-stalls t ok some stalls g (q .stalled .0) k .0 (q .stalled .1));
+  }
 
-pub steps-within : (waits : List ℕ) (φ : Mapping) (stalled n : ℕ) (steps : List ℕ) → StepsRows waits φ stalled n steps → Within n waits steps
-steps-within waits φ stalled n steps f a b r = record { i-below = r .i-below; j-below = r .j-below; bit = f a b (r .i-below) .1 (inl (r .bit)) }
+  queues-back : (m k : ℕ) → Queues (relationsOfTables t) φ m k → Queues (ofRows (t .«message_count») [] stalls) φ m k
+  queues-back m k q = record {
+    m-message = q .m-message;
+    k-message = q .k-message;
+    differ = q .differ;
+    share = q .share;
+    stalled = (q .stalled .0, rows-stalls t ok some stalls g (q .stalled .0) k .1 (q .stalled .1));
+  }
+
+  pub steps-told : (waits steps : List ℕ) → WaitsOf (relationsOfTables t) waits → StepsRows waits stalls φ (t .«message_count») steps → StepsOf t φ steps
+  steps-told waits steps w f m k h = (
+    λ b. ⊎-elim (λ x. inl (w m k .0 x)) (λ q. inr (queues-there m k q)) (f .bits m k h .0 b),
+    λ x. f .bits m k h .1 (⊎-elim (λ y. inl (w m k .1 y)) (λ q. inr (queues-back m k q)) x),
+  )
+
+pub steps-within : (waits stalls : List ℕ) (φ : Mapping) (n : ℕ) (steps : List ℕ) → StepsRows waits stalls φ n steps → Within n waits steps
+steps-within waits stalls φ n steps f a b r = record { i-below = r .i-below; j-below = r .j-below; bit = f .bits a b (r .i-below) .1 (inl (r .bit)) }
 
 -- ---- the verdict
 

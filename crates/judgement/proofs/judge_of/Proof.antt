@@ -1,12 +1,12 @@
--- `verdicts::judge_of` meets its contract.
+-- `judgement::judge_of` meets its contract.
 use mathlib.Core.Path.{refl}
 use borrow.Author.Needs.{needs}
 use Rattle.tables.specs.Cells.{relationsOfTables}
 use Rattle.verdicts.specs.Verdicts.{mappingOf, WaitsOf}
 use Rattle.verdicts.proofs.Waiting.{causes-tidy, stalls-tidy, waits-told}
-use Rattle.verdicts.proofs.Judging.{steps-told, steps-within}
-use Rattle.verdicts.proofs.judge_of.Statement.{statement}
-use Rattle.verdicts.proofs.judge_of.Tie as tie
+use Rattle.judgement.proofs.Verdict.{steps-told, steps-within}
+use Rattle.judgement.proofs.judge_of.Statement.{statement}
+use Rattle.judgement.proofs.judge_of.Tie as tie
 
 causes-rows-requires : tie.Need-causes-rows-requires
 causes-rows-requires c κs = c .pre .0
@@ -27,27 +27,23 @@ waits-are c =
     let f = c .before .before .causes-rows in
     waits-told (s .args .t) (s .pre .0) (s .pre .1) (f .result) (g .result) (f .ensures) (g .ensures) (c .waits-of .result) (c .waits-of .ensures)
 
-stalled-of-requires : tie.Need-stalled-of-requires
-stalled-of-requires c κs = c .before .before .before .pre .0 .messages
-
 steps-of-requires : tie.Need-steps-of-requires
-steps-of-requires c κs = c .before .before .before .before .pre .0 .messages
+steps-of-requires c κs = c .before .before .before .pre .0 .messages
 
 judge-rows-requires : tie.Need-judge-rows-requires
 judge-rows-requires c κs =
-    let s = c .before .before .before .before .before in
-    (s .pre .0 .messages, steps-within (c .before .before .waits-of .result) (mappingOf (s .args .networks)) (c .before .stalled-of .result) (s .args .t .«message_count») (c .steps-of .result) (c .steps-of .ensures))
+    let s = c .before .before .before .before in
+    (s .pre .0 .messages, steps-within (c .before .waits-of .result) (c .before .before .stalls-rows .result) (mappingOf (s .args .networks)) (s .args .t .«message_count») (c .steps-of .result) (c .steps-of .ensures))
 
 returns : tie.Need-returns
 returns c =
-    let s = c .before .before .before .before .before .before in
-    let g = c .before .before .before .before .stalls-rows in
-    let w = c .before .before .before .waits-of in
-    let a = c .before .before .stalled-of in
+    let s = c .before .before .before .before .before in
+    let g = c .before .before .before .stalls-rows in
+    let w = c .before .before .waits-of in
     let f = c .before .steps-of in
-    let told = waits-are (c .before .before .before) in
+    let told = waits-are (c .before .before) in
     c .judge-rows .ensures (s .args .t) (mappingOf (s .args .networks)) (s .pre .0) (s .pre .1) refl told
-    (steps-told (s .args .t) (s .pre .0) (s .pre .1) (mappingOf (s .args .networks)) (g .result) (a .result) (g .ensures) (a .ensures) (w .result) (f .result) told (f .ensures))
+    (steps-told (s .args .t) (s .pre .0) (s .pre .1) (mappingOf (s .args .networks)) (g .result) (g .ensures) (w .result) (f .result) told (f .ensures))
 
 pub judge-of-spec : {M : Type 1} → statement M
 judge-of-spec =
@@ -56,7 +52,6 @@ judge-of-spec =
     causes-rows-requires
     stalls-rows-requires
     waits-of-requires
-    stalled-of-requires
     steps-of-requires
     judge-rows-requires
     returns)

@@ -1,11 +1,11 @@
--- `verdicts::queues_row` meets its contract.
+-- `steps::queues_row` meets its contract.
 use Prim.Native.Nat.{_-_, _≤_, _<_, _^_}
 use native.Mathlib.Omega.{arith}
 use borrow.Author.Needs.{needs}
-use Rattle.verdicts.specs.Verdicts.{mappingOf}
-use Rattle.verdicts.proofs.Queueing.{Queueing, queueing-none, queueing-more, queueing-all}
-use Rattle.verdicts.proofs.queues_row.Statement.{statement}
-use Rattle.verdicts.proofs.queues_row.Tie as tie
+use Rattle.steps.specs.Steps.{mappingOf}
+use Rattle.steps.proofs.Queueing.{Queueing, queueing-none, queueing-more, queueing-all}
+use Rattle.steps.proofs.queues_row.Statement.{statement}
+use Rattle.steps.proofs.queues_row.Tie as tie
 
 abbrev Inv-loop : tie.InvT-loop
 Inv-loop networks stalled n m row₀ k₀ row k = (k ≤ n) × Queueing (mappingOf networks) stalled m k row

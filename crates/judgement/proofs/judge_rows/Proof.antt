@@ -1,8 +1,8 @@
--- `verdicts::judge_rows` meets its contract.
+-- `judgement::judge_rows` meets its contract.
 use borrow.Author.Needs.{needs}
-use Rattle.verdicts.proofs.Judging.{judged}
-use Rattle.verdicts.proofs.judge_rows.Statement.{statement}
-use Rattle.verdicts.proofs.judge_rows.Tie as tie
+use Rattle.judgement.proofs.Verdict.{judged}
+use Rattle.judgement.proofs.judge_rows.Statement.{statement}
+use Rattle.judgement.proofs.judge_rows.Tie as tie
 
 slice-aggregate-cycle : tie.Need-slice-aggregate-cycle
 slice-aggregate-cycle c = search needs

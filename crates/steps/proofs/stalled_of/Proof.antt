@@ -1,11 +1,11 @@
--- `verdicts::stalled_of` meets its contract.
+-- `steps::stalled_of` meets its contract.
 use Prim.Native.Nat.{_-_, _<_, _^_}
 use native.Mathlib.Omega.{arith}
 use borrow.Author.Needs.{needs}
 use Rattle.relations.proofs.Tables.{StrayInv, stray-start, stray-step}
-use Rattle.verdicts.proofs.Queueing.{stalled-end}
-use Rattle.verdicts.proofs.stalled_of.Statement.{statement}
-use Rattle.verdicts.proofs.stalled_of.Tie as tie
+use Rattle.steps.proofs.Queueing.{stalled-end}
+use Rattle.steps.proofs.stalled_of.Statement.{statement}
+use Rattle.steps.proofs.stalled_of.Tie as tie
 
 abbrev Inv-loop : tie.InvT-loop
 Inv-loop n stalls all₀ a₀ all a = StrayInv stalls n all a
