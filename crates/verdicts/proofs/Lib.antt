@@ -2,3 +2,4 @@ pub mod Turning
 pub mod Written
 pub mod Waiting
 pub mod Planning
+pub mod Determined
