@@ -29,6 +29,10 @@ module _ (φ : Mapping) (stalled m : ℕ) where
   pub behind-no : (k row : ℕ) → ¬ Behind φ stalled m k → WithBehind φ stalled m k row row
   behind-no k row g j = (inl, ⊎-elim (λ b. b) (λ y. absurd (g (y .1))))
 
+  -- they are in two networks
+  pub behind-parted : (k row : ℕ) → φ m ≢ φ k → WithBehind φ stalled m k row row
+  behind-parted k row g = behind-no k row (λ b. g (b .share))
+
   -- the row of stalled messages does not have k
   pub behind-free : (k row : ℕ) (r : Bool) → (r ≡ true) ↔ Bit stalled k → r ≡ false → WithBehind φ stalled m k row row
   behind-free k row r f e = behind-no k row (λ b. not-so (f .1 (b .bit)))

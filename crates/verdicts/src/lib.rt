@@ -31,7 +31,8 @@ pub fn messages_of(bytes: [u8; 32]) -> [Message; 32]
     let mut messages = [Message(0); 32];
     let mut i = 0;
     while i < 32 {
-        messages[i] = Message(bytes[i]);
+        let byte = bytes[i];
+        messages[i] = Message(byte);
         i += 1;
     }
     messages
@@ -44,7 +45,8 @@ fn ranked(count: usize, bytes: [u8; 32]) -> Planned
     let mut networks = [Network(0); 32];
     let mut i = 0;
     while i < 32 {
-        networks[i] = Network(bytes[i]);
+        let height = bytes[i];
+        networks[i] = Network(height);
         i += 1;
     }
     Planned {

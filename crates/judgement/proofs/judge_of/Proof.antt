@@ -33,7 +33,7 @@ steps-of-requires c κs = c .before .before .before .pre .0 .messages
 judge-rows-requires : tie.Need-judge-rows-requires
 judge-rows-requires c κs =
     let s = c .before .before .before .before in
-    (s .pre .0 .messages, steps-within (c .before .waits-of .result) (c .before .before .stalls-rows .result) (mappingOf (s .args .networks)) (s .args .t .«message_count») (c .steps-of .result) (c .steps-of .ensures))
+    (s .pre .0 .messages, steps-within (c .before .waits-of .result) _ (mappingOf (s .args .networks)) (s .args .t .«message_count») (c .steps-of .result) (c .steps-of .ensures))
 
 returns : tie.Need-returns
 returns c =

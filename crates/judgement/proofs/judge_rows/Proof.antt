@@ -23,7 +23,7 @@ returns : tie.Need-returns
 returns c =
     let s = c .before .before .before .before .before .before in
     let y = c .before .before .cycle in
-    judged (s .args .t1) (s .args .t2) (s .args .n) (s .pre .0) (y .last .1 .1 .1 .0) (y .result) (y .ensures) (c .messages-of .result) (c .messages-of .ensures)
+    judged _ _ (s .args .n) (s .pre .0) (y .last .1 .1 .1 .0) (y .result) (y .ensures) (c .messages-of .result) (c .messages-of .ensures)
 
 pub judge-rows-spec : {M : Type 1} → statement M
 judge-rows-spec =

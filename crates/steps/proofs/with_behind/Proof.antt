@@ -2,7 +2,7 @@
 use borrow.Author.Needs.{needs}
 use borrow.Author.Tests.{not-true, not-false}
 use Rattle.steps.specs.Steps.{mappingOf}
-use Rattle.steps.proofs.Queueing.{behind-yes, behind-no, behind-free}
+use Rattle.steps.proofs.Queueing.{behind-yes, behind-no, behind-parted, behind-free}
 use Rattle.steps.proofs.with_behind.Statement.{statement}
 use Rattle.steps.proofs.with_behind.Tie as tie
 
@@ -20,7 +20,7 @@ element-copy-out-if2-2 c = search needs
 returns-2 : tie.Need-returns-2
 returns-2 c =
     let a = c .before .before .args in
-    behind-no (mappingOf (a .t2)) (a .stalled) (a .m) (a .k) (a .row) (λ b. c .if2 .taken (b .share))
+    behind-parted (mappingOf (a .t2)) (a .stalled) (a .m) (a .k) (a .row) (c .if2 .taken)
 
 has-requires : tie.Need-has-requires
 has-requires c κs = search needs

@@ -16,8 +16,8 @@ abbrev μ-loop : tie.MeasureT-loop
 loop-holds : tie.Need-loop-holds Inv-loop μ-loop
 loop-holds c = turned-none asNetwork (c .args .t2) _ (search needs)
 
-array-read-t10 : tie.Need-array-read-t10 Inv-loop μ-loop
-array-read-t10 c = omega arith
+array-read-height : tie.Need-array-read-height Inv-loop μ-loop
+array-read-height c = omega arith
 
 array-set-from-networks : tie.Need-array-set-from-networks Inv-loop μ-loop
 array-set-from-networks c = omega arith
@@ -41,7 +41,7 @@ ranked-spec =
     Inv-loop
     μ-loop
     loop-holds
-    array-read-t10
+    array-read-height
     array-set-from-networks
     add-i
     loop-less
