@@ -2,5 +2,4 @@ pub mod Turning
 pub mod Written
 pub mod Waiting
 pub mod Planning
-pub mod Queueing
-pub mod Judging
+pub mod Determined

@@ -6,8 +6,6 @@ use mathlib.Core.List.{List, map}
 use native.Mathlib.Omega.{arith}
 use lib.ListN.{length, getD, take, drop, replicate}
 use lib.Seq.{getD-take, length-take-le}
-use Rattle.rules.specs.declared.Message.{Message}
-use Rattle.rules.specs.declared.Network.{Network}
 use Rattle.rules.specs.Rules.{Relations, Waits, WaitsCycle}
 use Rattle.rules.specs.Plan.{Height, Printed, LeastCount, LongestChain, PlanCycle}
 use Rattle.rules.specs.Promises.{Accepted, GoodPlan}
@@ -24,8 +22,8 @@ use Rattle.tables.specs.Cells.{relationsOfTables}
 use Rattle.tables.proofs.InRange.{relations-accepted}
 use Rattle.plan_listing.specs.PlanText.{firstMessages, firstNetworks}
 use Rattle.verdicts.specs.declared.Planned.{Planned}
-use Rattle.verdicts.specs.Verdicts.{WaitsOf, noMessage, noNetwork, ClassThree, ClassTwo}
-use Rattle.verdicts.specs.Leaves.{asMessage, asNetwork, RowsPlan}
+use Rattle.verdicts.specs.Verdicts.{WaitsOf, ClassThree, ClassTwo}
+use Rattle.verdicts.specs.Leaves.{asMessage, asNetwork, classThree, classTwo, RowsPlan}
 use Rattle.verdicts.proofs.Waiting.{rows-waits}
 use Rattle.verdicts.proofs.Written.{networks-first, past, cycle-first, cycle-few, cycle-long, cycle-messages, cycle-past}
 
@@ -61,35 +59,36 @@ module _ (p : Relations) (acc : Accepted p) (few : p .count ≤ 32) (waits : Lis
     least : LeastCount p count
     least = least-count p (waits-within p acc) (λ m. getD bytes m 0) printed count chain
 
-    class-three : (networks : List Network) → networks ≡ map asNetwork bytes
-        → ClassThree p (record { count = count; networks = networks; length = 0; cycle = replicate 32 noMessage })
-    class-three networks is =
+    class-three : ClassThree p (classThree count bytes)
+    unfolding classThree
+    class-three =
         record {
           some = omega arith;
           few = omega (arith, count-few p acc count least);
           long = ap length first ∙ length-take-le (p .count) bytes (omega (arith, h .long));
           printed = λ m l. subst (Height (Waits p) m) (sym (ap (λ (l : List ℕ). getD l m 0) first ∙ getD-take (p .count) bytes m 0 l)) (printed m l);
           least = least;
-          networks-past = ap (drop (p .count)) is ∙ past asNetwork (p .count) 32 bytes (h .rest g);
+          networks-past = past asNetwork (p .count) 32 bytes (h .rest g);
           no-length = refl;
           no-cycle = refl;
         }
       where
-        first : firstNetworks (p .count) networks ≡ take (p .count) bytes
-        first = ap (firstNetworks (p .count)) is ∙ networks-first (p .count) bytes
+        first : firstNetworks (p .count) (map asNetwork bytes) ≡ take (p .count) bytes
+        first = networks-first (p .count) bytes
 
   class-two : (mid new : List ℕ) (count len : ℕ) → count ≡ 0 → Heights waits (p .count) (replicate 32 0) mid count → Cycle waits waits (p .count) mid new len
-      → (cycle : List Message) → cycle ≡ map asMessage new → ClassTwo p (record { count = 0; networks = replicate 32 noNetwork; length = len; cycle = cycle })
-  class-two mid new count len e h c cycle is =
+      → ClassTwo p (classTwo len new)
+  unfolding classTwo
+  class-two mid new count len e h c =
       record {
         none = refl;
-        few = cycle-few (p .count) few waits waits new len over cycle is;
-        long = cycle-long (p .count) few waits waits new len over cycle is;
-        messages = cycle-messages (p .count) few waits waits new len over cycle is found;
+        few = cycle-few (p .count) few waits waits new len over (map asMessage new) refl;
+        long = cycle-long (p .count) few waits waits new len over (map asMessage new) refl;
+        messages = cycle-messages (p .count) few waits waits new len over (map asMessage new) refl found;
         cycle =
-            subst (PlanCycle p) (sym (cycle-first (p .count) few waits waits new len over cycle is))
+            subst (PlanCycle p) (sym (cycle-first (p .count) few waits waits new len over (map asMessage new) refl))
             (shown-same (Rows (p .count) waits) (Waits p) (Rows (p .count) waits) (Waits p) same same (take len new) (c .shown found));
-        cycle-past = cycle-past (p .count) few waits waits new len over cycle is;
+        cycle-past = cycle-past (p .count) few waits waits new len over (map asMessage new) refl;
         no-networks = refl;
       }
     where
@@ -103,13 +102,13 @@ module _ (p : Relations) (acc : Accepted p) (few : p .count ≤ 32) (waits : Lis
           c .none z (t .0) (t .1)
 
 module _ (waits : List ℕ) (n : ℕ) (few : n ≤ 32) where
-  pub plan-three : (bytes : List ℕ) (count : ℕ) → ¬ (count ≡ 0) → Heights waits n (replicate 32 0) bytes count → (networks : List Network) → networks ≡ map asNetwork bytes
-      → RowsPlan waits n (record { count = count; networks = networks; length = 0; cycle = replicate 32 noMessage })
-  plan-three bytes count g h networks is t ok some e w =
-      inl (class-three (relationsOfTables t) (relations-accepted t ok (omega arith)) (omega arith) waits w bytes count g (subst (λ (k : ℕ). Heights waits k (replicate 32 0) bytes count) (sym e) h) networks is)
+  pub plan-three : (bytes : List ℕ) (count : ℕ) → ¬ (count ≡ 0) → Heights waits n (replicate 32 0) bytes count → (r : Planned) → r ≡ classThree count bytes → RowsPlan waits n r
+  plan-three bytes count g h r is t ok some e w =
+      inl (subst (ClassThree (relationsOfTables t)) (sym is)
+      (class-three (relationsOfTables t) (relations-accepted t ok (omega arith)) (omega arith) waits w bytes count g (subst (λ (k : ℕ). Heights waits k (replicate 32 0) bytes count) (sym e) h)))
 
-  pub plan-two : (mid new : List ℕ) (count len : ℕ) → count ≡ 0 → Heights waits n (replicate 32 0) mid count → Cycle waits waits n mid new len
-      → (cycle : List Message) → cycle ≡ map asMessage new → RowsPlan waits n (record { count = 0; networks = replicate 32 noNetwork; length = len; cycle = cycle })
-  plan-two mid new count len z h c cycle is t ok some e w =
-      inr (class-two (relationsOfTables t) (relations-accepted t ok (omega arith)) (omega arith) waits w mid new count len z
-      (subst (λ (k : ℕ). Heights waits k (replicate 32 0) mid count) (sym e) h) (subst (λ (k : ℕ). Cycle waits waits k mid new len) (sym e) c) cycle is)
+  pub plan-two : (mid new : List ℕ) (count len : ℕ) → count ≡ 0 → Heights waits n (replicate 32 0) mid count → Cycle waits waits n mid new len → (r : Planned) → r ≡ classTwo len new → RowsPlan waits n r
+  plan-two mid new count len z h c r is t ok some e w =
+      inr (subst (ClassTwo (relationsOfTables t)) (sym is)
+      (class-two (relationsOfTables t) (relations-accepted t ok (omega arith)) (omega arith) waits w mid new count len z
+      (subst (λ (k : ℕ). Heights waits k (replicate 32 0) mid count) (sym e) h) (subst (λ (k : ℕ). Cycle waits waits k mid new len) (sym e) c)))

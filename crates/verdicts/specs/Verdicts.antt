@@ -9,6 +9,7 @@ use Rattle.rules.specs.declared.Network.{Network}
 use Rattle.rules.specs.Rules.{MessageNo, Relations, Mapping, Waits, Fit}
 use Rattle.rules.specs.Plan.{LeastCount, Printed, PlanCycle, JudgeCycle}
 use Rattle.rows.specs.Rows.{Bit}
+pub use Rattle.steps.specs.Steps.{mappingOf}
 use Rattle.plan_listing.specs.PlanText.{firstMessages, firstNetworks}
 use Rattle.verdicts.specs.declared.Planned.{Planned}
 use Rattle.verdicts.specs.declared.Judged.{Judged}
@@ -62,10 +63,6 @@ abbrev pub PlanIs : Relations → Planned → Type 0
 PlanIs p r = ClassThree p r ⊎ ClassTwo p r
 
 -- ---- a judgement
-
--- The mapping that these networks give: message m is in the network at place m.
-abbrev pub mappingOf : List Network → Mapping
-mappingOf networks m = getD networks m noNetwork .0
 
 -- Unfit, with the shown cycle.
 pub record Unfitting (p : Relations) (φ : Mapping) (r : Judged) : Type 0 where

@@ -16,8 +16,8 @@ abbrev μ-loop : tie.MeasureT-loop
 loop-holds : tie.Need-loop-holds Inv-loop μ-loop
 loop-holds c = turned-none asMessage (c .args .t1) _ (search needs)
 
-array-read-t9 : tie.Need-array-read-t9 Inv-loop μ-loop
-array-read-t9 c = omega arith
+array-read-byte : tie.Need-array-read-byte Inv-loop μ-loop
+array-read-byte c = omega arith
 
 array-set-from-messages : tie.Need-array-set-from-messages Inv-loop μ-loop
 array-set-from-messages c = omega arith
@@ -41,7 +41,7 @@ messages-of-spec =
     Inv-loop
     μ-loop
     loop-holds
-    array-read-t9
+    array-read-byte
     array-set-from-messages
     add-i
     loop-less

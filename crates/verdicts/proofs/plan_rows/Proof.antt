@@ -13,14 +13,14 @@ slice-aggregate-heights-2 c = search needs
 heights-requires : tie.Need-heights-requires
 heights-requires c κs = search needs
 
-networks-of-requires : tie.Need-networks-of-requires
-networks-of-requires c κs = search needs
+ranked-requires : tie.Need-ranked-requires
+ranked-requires c κs = search needs
 
 returns : tie.Need-returns
 returns c =
     let s = c .before .before .before .before .before .before in
     let h = c .before .before .before .heights in
-    plan-three (s .args .t1) (s .args .n) (s .pre .1) (h .last .1 .1 .0) (h .result) (c .before .if1 .taken) (h .ensures) (c .networks-of .result) (c .networks-of .ensures)
+    plan-three (s .args .t1) (s .args .n) (s .pre .1) (h .last .1 .1 .0) (h .result) (c .before .if1 .taken) (h .ensures) (c .ranked .result) (c .ranked .ensures)
 
 slice-aggregate-cycle : tie.Need-slice-aggregate-cycle
 slice-aggregate-cycle c = search needs
@@ -34,15 +34,15 @@ slice-aggregate-cycle-3 c = search needs
 cycle-requires : tie.Need-cycle-requires
 cycle-requires c κs = search needs
 
-messages-of-requires : tie.Need-messages-of-requires
-messages-of-requires c κs = search needs
+cycled-requires : tie.Need-cycled-requires
+cycled-requires c κs = search needs
 
 returns-2 : tie.Need-returns-2
 returns-2 c =
     let s = c .before .before .before .before .before .before .before .before .before .before .before in
     let h = c .before .before .before .before .before .before .before .before .heights in
     let y = c .before .before .cycle in
-    plan-two (s .args .t1) (s .args .n) (s .pre .1) (h .last .1 .1 .0) (y .last .1 .1 .1 .0) (h .result) (y .result) (c .before .before .before .before .before .before .if1 .left) (h .ensures) (y .ensures) (c .messages-of .result) (c .messages-of .ensures)
+    plan-two (s .args .t1) (s .args .n) (s .pre .1) (h .last .1 .1 .0) (y .last .1 .1 .1 .0) (h .result) (y .result) (c .before .before .before .before .before .before .if1 .left) (h .ensures) (y .ensures) (c .cycled .result) (c .cycled .ensures)
 
 pub plan-rows-spec : {M : Type 1} → statement M
 plan-rows-spec =
@@ -51,11 +51,11 @@ plan-rows-spec =
     slice-aggregate-heights
     slice-aggregate-heights-2
     heights-requires
-    networks-of-requires
+    ranked-requires
     returns
     slice-aggregate-cycle
     slice-aggregate-cycle-2
     slice-aggregate-cycle-3
     cycle-requires
-    messages-of-requires
+    cycled-requires
     returns-2)
