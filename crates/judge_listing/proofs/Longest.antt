@@ -9,7 +9,7 @@ use Rattle.rules.specs.Plan.{Word, waits, queues}
 use Rattle.tables.specs.declared.MessageRow.{MessageRow}
 use Rattle.tables.specs.Tables.{noMessage}
 use Rattle.plan_listing.specs.PlanText.{nameAt, messageNo, firstMessages}
-use Rattle.judge_listing.specs.JudgeText.{ShownStep, lineStart, stepLine, wordText, wordIn, verdictHead, fitText, stepText, stepTexts}
+use Rattle.judge_listing.specs.JudgeText.{ShownStep, stepLine, wordText, wordIn, verdictHead, fitText, stepText, stepTexts}
 use Rattle.judge_listing.specs.Steps.{walkSteps}
 use Rattle.judge_listing.specs.Longest.{ShortNames, KeptNames, FitLength, LongestUnfit}
 use Rattle.judge_listing.proofs.Places.{steps-length}
@@ -28,7 +28,7 @@ word-short waits = omega arith
 word-short queues = omega arith
 
 step-short : (rows : List MessageRow) (s : ShownStep) → ShortNames rows → length (stepText rows s) ≤ 62
-unfolding stepText stepLine lineStart
+unfolding stepText stepLine
 step-short rows s h = simp length-append (omega (arith, h (s .from), word-short (s .word), h (s .to)))
 
 steps-short : (rows : List MessageRow) (steps : List ShownStep) → ShortNames rows → length (stepTexts rows steps) ≤ 62 * length steps

@@ -22,7 +22,7 @@ use Rattle.tables.specs.Tables.{noMessage}
 use Rattle.tables.proofs.AllCells.{getD-within}
 use Rattle.plan_listing.specs.PlanText.{nameAt}
 use Rattle.judge_listing.specs.declared.Step.{Step}
-use Rattle.judge_listing.specs.JudgeText.{ShownStep, stepsOf, lineStart, stepLine, verdictHead, unfitText, stepText, stepTexts, wordText, pickWord, wordIn}
+use Rattle.judge_listing.specs.JudgeText.{ShownStep, stepsOf, stepLine, verdictHead, unfitText, stepText, stepTexts, wordText, pickWord, wordIn}
 use Rattle.judge_listing.specs.Steps.{nextPlace, stepOf, stepAt, lineOf}
 use Rattle.judge_listing.proofs.Places.{steps-length, steps-at, bit-test}
 
@@ -52,7 +52,7 @@ pub name-short : (n : Name) → length (n .bytes) ≡ 24 → length (nameText n)
 name-short n e = omega (arith, length-take (n .length) (n .bytes))
 
 pub line-length : (s : Step) → length (lineOf s) ≡ 8 + length (nameText (s .from)) + length (wordText (pickWord (s .waits))) + length (nameText (s .to))
-unfolding lineOf stepLine lineStart
+unfolding lineOf stepLine
 line-length s = simp length-append (omega arith)
 
 pub unfit-length : (rows : List MessageRow) (steps : List ShownStep) → length (unfitText rows steps) ≡ 17 + length (stepTexts rows steps)

@@ -35,12 +35,12 @@ abbrev pub wordText : Word → List ℕ
 wordText waits = waitsWord
 wordText queues = queuesWord
 
--- The line of a step up to its word.
-unfoldable pub lineStart : List ℕ → List ℕ
-lineStart from = ((stepWord ++ tab) ++ from) ++ tab
+-- A word between its tabs.
+abbrev pub between : List ℕ → List ℕ
+between word = (tab ++ word) ++ tab
 
 unfoldable pub stepLine : List ℕ → List ℕ → List ℕ → List ℕ
-stepLine from word to = (((lineStart from ++ word) ++ tab) ++ to) ++ newline
+stepLine from word to = ((((stepWord ++ tab) ++ from) ++ between word) ++ to) ++ newline
 
 unfoldable pub stepText : List MessageRow → ShownStep → List ℕ
 stepText rows s = stepLine (nameAt rows (s .from)) (wordText (s .word)) (nameAt rows (s .to))

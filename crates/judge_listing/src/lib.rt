@@ -1,14 +1,12 @@
 // The listing of a judgement.
 ghost use mathlib.Core.Path.{_≡_};
 ghost use Prim.Native.Nat.{_+_, _<_, _≤_};
-ghost use lib.ListN.{length, getD};
-ghost use Rattle.rows.specs.Rows.{Bit};
+ghost use lib.ListN.{length};
 ghost use Rattle.text.specs.Name.{nameText};
-ghost use Rattle.text.specs.Words.{unfitWord};
 ghost use Rattle.text.specs.Written.{Wrote, Pasted};
 ghost use Rattle.plan_listing.specs.PlanText.{nameAt, firstMessages};
 ghost use Rattle.answers.specs.Answers.{Listed};
-ghost use Rattle.judge_listing.specs.JudgeText.{fitText, unfitText, verdictHead, lineStart, stepText, stepTexts, wordText, pickWord, wordIn};
+ghost use Rattle.judge_listing.specs.JudgeText.{fitText, unfitText, stepText, stepTexts, between, wordText, pickWord, wordIn};
 ghost use Rattle.judge_listing.specs.Steps.{GivenWalk, walkSteps, nextPlace, stepAt, lineOf};
 use answers::Answer;
 use rules::Message;
@@ -101,37 +99,15 @@ fn unfit_length(
     n
 }
 
-// The header and the verdict at the front of out.
-fn put_head(out: &mut [u8], verdict: &[u8]) -> usize
-    requires { ⌜ length (verdictHead (now verdict)) ≤ length (now out) ⌝ }
-    ensures { λ r. ⌜ Wrote (verdictHead (now (verdict .entry))) (now (out .entry)) (now (out .exit)) r ⌝ }
-{
-    let a = text::put(out, b"vn-judge\t1");
-    let b = text::more(out, a, b"\n");
-    let c = text::more(out, b, verdict);
-    text::more(out, c, b"\n")
-}
-
-// The step's word at a place of out.
+// The step's word between its tabs, at a place of out.
 fn more_word(out: &mut [u8], at: usize, waits: bool) -> usize
-    requires { ⌜ at + length (wordText (pickWord waits)) ≤ length (now out) ⌝ }
-    ensures { λ r. ⌜ Pasted (wordText (pickWord waits)) at (now (out .entry)) (now (out .exit)) r ⌝ }
+    requires { ⌜ at + length (between (wordText (pickWord waits))) ≤ length (now out) ⌝ }
+    ensures { λ r. ⌜ Pasted (between (wordText (pickWord waits))) at (now (out .entry)) (now (out .exit)) r ⌝ }
 {
     if waits {
-        return text::more(out, at, b"waits");
+        return text::more(out, at, b"\twaits\t");
     }
-    text::more(out, at, b"queues")
-}
-
-// The step's line up to its word, at the front of out.
-fn put_from(out: &mut [u8], from: Name) -> usize
-    requires { ⌜ length (lineStart (nameText from)) ≤ length (now out) ⌝ }
-    ensures { λ r. ⌜ Wrote (lineStart (nameText from)) (now (out .entry)) (now (out .exit)) r ⌝ }
-{
-    let a = text::put(out, b"step");
-    let b = text::more(out, a, b"\t");
-    let c = text::more_name(out, b, from);
-    text::more(out, c, b"\t")
+    text::more(out, at, b"\tqueues\t")
 }
 
 // The step's line at the front of out.
@@ -141,9 +117,9 @@ fn put_step(out: &mut [u8], step: Step) -> usize
 {
     let from = step.from;
     let to = step.to;
-    let a = put_from(out, from);
-    let b = more_word(out, a, step.waits);
-    let c = text::more(out, b, b"\t");
+    let a = text::put(out, b"step\t");
+    let b = text::more_name(out, a, from);
+    let c = more_word(out, b, step.waits);
     let d = text::more_name(out, c, to);
     text::more(out, d, b"\n")
 }
@@ -177,7 +153,7 @@ pub fn fit_listing(out: &mut [u8]) -> Answer
     if out.len() < 15 {
         return answers::no_room(15);
     }
-    let end = put_head(out, b"fit");
+    let end = text::put(out, b"vn-judge\t1\nfit\n");
     answers::listed(end)
 }
 
@@ -196,7 +172,7 @@ pub fn unfit_listing(
     if out.len() < needed {
         return answers::no_room(needed);
     }
-    let at = put_head(out, b"unfit");
+    let at = text::put(out, b"vn-judge\t1\nunfit\n");
     let end = more_steps(out, at, messages, cycle, length, waits);
     answers::listed(end)
 }

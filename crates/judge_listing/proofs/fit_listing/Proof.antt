@@ -15,11 +15,11 @@ returns : tie.Need-returns
 unfolding fitText verdictHead
 returns c = record { no-room = λ _. record { answer = cc; bytes = refl }; room = λ k. absurd (omega arith) }
 
-slice-aggregate-put-head : tie.Need-slice-aggregate-put-head
-slice-aggregate-put-head c = search needs
+slice-aggregate-put : tie.Need-slice-aggregate-put
+slice-aggregate-put c = search needs
 
-put-head-requires : tie.Need-put-head-requires
-put-head-requires c κs = omega (arith, verdict-length fitWord, c .before .before .if1 .left)
+put-requires : tie.Need-put-requires
+put-requires c κs = omega (arith, c .before .before .if1 .left)
 
 listed-requires : tie.Need-listed-requires
 listed-requires c κs = search needs
@@ -28,8 +28,8 @@ same-length : tie.Need-same-length
 same-length c = search needs
 
 returns-2 : tie.Need-returns-2
-unfolding fitText
-returns-2 c = is-listed (verdictHead fitWord) (c .before .before .before .before .before .before .before .before .args .out .now) _ _ _ (omega (arith, verdict-length fitWord, c .before .before .before .before .before .before .if1 .left)) (c .before .before .before .put-head .ensures) (c .listed .ensures)
+unfolding fitText verdictHead
+returns-2 c = is-listed (verdictHead fitWord) (c .before .before .before .before .before .before .before .before .args .out .now) _ _ _ (omega (arith, verdict-length fitWord, c .before .before .before .before .before .before .if1 .left)) (c .before .before .before .put .ensures) (c .listed .ensures)
 
 pub fit-listing-spec : {M : Type 1} → statement M
 fit-listing-spec =
@@ -37,8 +37,8 @@ fit-listing-spec =
     (tie.spec
     no-room-requires
     returns
-    slice-aggregate-put-head
-    put-head-requires
+    slice-aggregate-put
+    put-requires
     listed-requires
     same-length
     returns-2)

@@ -37,13 +37,13 @@ index-requires : tie.Need-index-requires
 index-requires c κs = search needs
 
 mul-row : tie.Need-mul-row
-mul-row c = omega (arith, c .index .ensures, from-below (c .before .before .before .before))
+mul-row c = omega (arith, c .index .ensures, from-below (c .before .before .before .before), to-below (c .before .before))
 
 array-read-row : tie.Need-array-read-row
-array-read-row c = omega (arith, c .index .ensures, from-below (c .before .before .before .before))
+array-read-row c = omega (arith, c .index .ensures, from-below (c .before .before .before .before), to-below (c .before .before))
 
 name-of-requires : tie.Need-name-of-requires
-name-of-requires c κs = omega (arith, from-below (c .before .before .before .before))
+name-of-requires c κs = omega (arith, from-below (c .before .before .before .before), to-below (c .before .before))
 
 index-requires-2 : tie.Need-index-requires-2
 index-requires-2 c κs = search needs

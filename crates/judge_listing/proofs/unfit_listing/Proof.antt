@@ -1,15 +1,14 @@
 -- `judge_listing::unfit_listing` meets its contract.
-use mathlib.Core.Path.{sym, _∙_}
 use mathlib.Core.List.{List, _++_}
 use Prim.Native.Nat.{ℕ, _≤_}
-use lib.ListN.{length}
+use lib.ListN.{length, length-append}
 use native.Mathlib.Omega.{arith}
 use Rattle.text.specs.Words.{unfitWord}
-use Rattle.text.proofs.Written.{room-first, more-room, then-more}
+use Rattle.text.specs.Written.{Wrote}
+use Rattle.text.proofs.Written.{more-room, then-more}
 use Rattle.judge_listing.specs.JudgeText.{verdictHead, stepTexts, unfitText}
 use Rattle.judge_listing.specs.Steps.{walkSteps}
-use Rattle.judge_listing.proofs.Chains.{front-room}
-use Rattle.judge_listing.proofs.Listings.{not-listed, is-listed}
+use Rattle.judge_listing.proofs.Listings.{verdict-length, not-listed, is-listed}
 use borrow.Author.Needs.{needs}
 use Rattle.judge_listing.proofs.unfit_listing.Statement.{statement}
 use Rattle.judge_listing.proofs.unfit_listing.Tie as tie
@@ -22,6 +21,11 @@ room : (c : tie.Else1) → length (verdictHead unfitWord ++ Lines (c .before .be
 unfolding unfitText
 room c = omega (arith, c .if1 .left, c .before .unfit-length .ensures)
 
+-- the head is written
+head : (c : tie.After-put) → Wrote (verdictHead unfitWord) (c .before .before .before .before .before .before .args .out .now) (c .put .last .0) (c .put .result)
+unfolding verdictHead
+head c = c .put .ensures
+
 unfit-length-requires : tie.Need-unfit-length-requires
 unfit-length-requires c κs = search needs
 
@@ -31,16 +35,14 @@ no-room-requires c κs = search needs
 returns : tie.Need-returns
 returns c = not-listed (unfitText (c .before .before .before .before .args .messages) (walkSteps (c .before .before .before .before .args .waits) (c .before .before .before .before .args .length) (c .before .before .before .before .args .cycle))) (c .before .before .before .before .args .out .now) (c .before .before .unfit-length .result) _ (c .before .before .unfit-length .ensures) (c .before .if1 .taken) (c .no-room .ensures)
 
-slice-aggregate-put-head : tie.Need-slice-aggregate-put-head
-slice-aggregate-put-head c = search needs
+slice-aggregate-put : tie.Need-slice-aggregate-put
+slice-aggregate-put c = search needs
 
-put-head-requires : tie.Need-put-head-requires
-unfolding unfitText
-put-head-requires c κs = front-room (verdictHead unfitWord) (Lines (c .before .before .before .before .before)) (c .before .before .before .before .before .args .out .now) (room (c .before .before))
+put-requires : tie.Need-put-requires
+put-requires c κs = omega (arith, room (c .before .before), length-append (verdictHead unfitWord) (Lines (c .before .before .before .before .before)), verdict-length unfitWord)
 
 more-steps-requires : tie.Need-more-steps-requires
-unfolding unfitText
-more-steps-requires c κs = (c .before .before .before .before .before .before .before .before .before .pre, more-room (verdictHead unfitWord) (Lines (c .before .before .before .before .before .before .before .before .before)) (c .before .before .before .before .before .before .before .before .before .args .out .now) _ _ (room (c .before .before .before .before .before .before)) (c .before .before .before .put-head .ensures))
+more-steps-requires c κs = (c .before .before .before .before .before .before .before .before .before .pre, more-room (verdictHead unfitWord) (Lines (c .before .before .before .before .before .before .before .before .before)) (c .before .before .before .before .before .before .before .before .before .args .out .now) _ _ (room (c .before .before .before .before .before .before)) (head (c .before .before .before)))
 
 listed-requires : tie.Need-listed-requires
 listed-requires c κs = search needs
@@ -50,7 +52,7 @@ same-length c = search needs
 
 returns-2 : tie.Need-returns-2
 unfolding unfitText
-returns-2 c = is-listed (verdictHead unfitWord ++ Lines (c .before .before .before .before .before .before .before .before .before .before .before .before .before)) (c .before .before .before .before .before .before .before .before .before .before .before .before .before .args .out .now) _ (c .before .before .before .more-steps .result) _ (room (c .before .before .before .before .before .before .before .before .before .before)) (then-more (verdictHead unfitWord) (Lines (c .before .before .before .before .before .before .before .before .before .before .before .before .before)) (c .before .before .before .before .before .before .before .before .before .before .before .before .before .args .out .now) _ _ (room (c .before .before .before .before .before .before .before .before .before .before)) (c .before .before .before .before .before .before .before .put-head .ensures) _ _ (c .before .before .before .more-steps .ensures)) (c .listed .ensures)
+returns-2 c = is-listed (verdictHead unfitWord ++ Lines (c .before .before .before .before .before .before .before .before .before .before .before .before .before)) (c .before .before .before .before .before .before .before .before .before .before .before .before .before .args .out .now) _ (c .before .before .before .more-steps .result) _ (room (c .before .before .before .before .before .before .before .before .before .before)) (then-more (verdictHead unfitWord) (Lines (c .before .before .before .before .before .before .before .before .before .before .before .before .before)) (c .before .before .before .before .before .before .before .before .before .before .before .before .before .args .out .now) _ _ (room (c .before .before .before .before .before .before .before .before .before .before)) (head (c .before .before .before .before .before .before .before)) _ _ (c .before .before .before .more-steps .ensures)) (c .listed .ensures)
 
 pub unfit-listing-spec : {M : Type 1} → statement M
 unfit-listing-spec =
@@ -59,8 +61,8 @@ unfit-listing-spec =
     unfit-length-requires
     no-room-requires
     returns
-    slice-aggregate-put-head
-    put-head-requires
+    slice-aggregate-put
+    put-requires
     more-steps-requires
     listed-requires
     same-length
