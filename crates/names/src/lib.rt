@@ -36,7 +36,7 @@ pub fn message_named(messages: [MessageRow; 32], count: usize, part: &[u8]) -> F
     while i < count {
         let row = messages[i];
         let name = row.name;
-        if text::named(name, part) {
+        if naming::named(name, part) {
             return FoundMessage::At(Message(i as u8));
         }
         i += 1;
@@ -53,7 +53,7 @@ pub fn event_named(events: [EventRow; 8], count: usize, part: &[u8]) -> FoundEve
     while i < count {
         let row = events[i];
         let name = row.name;
-        if text::named(name, part) {
+        if naming::named(name, part) {
             return FoundEvent::At(Event(i as u8));
         }
         i += 1;
@@ -86,7 +86,7 @@ fn state_has(row: StateRow, controller: Controller, part: &[u8]) -> bool
         return false;
     }
     let name = row.name;
-    text::named(name, part)
+    naming::named(name, part)
 }
 
 // The controller's state with this name, among the first rows.
