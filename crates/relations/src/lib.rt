@@ -157,7 +157,7 @@ fn plan_rows(waits: &[u32], n: usize, out: &mut [u8]) -> RelationsAnswer
     ensures { λ r. ⌜ RowsPlan n (now (waits .entry)) (now (out .entry)) (now (out .exit)) r ⌝ }
 {
     let sum = pairs(waits, n);
-    let networks = walks::heights(waits, n, out);
+    let networks = heights::heights(waits, n, out);
     if networks != 0 {
         return RelationsAnswer {
             number: 0,
@@ -167,7 +167,7 @@ fn plan_rows(waits: &[u32], n: usize, out: &mut [u8]) -> RelationsAnswer
             pairs: sum,
         };
     }
-    let len = walks::cycle(waits, waits, n, out);
+    let len = cycles::cycle(waits, waits, n, out);
     RelationsAnswer {
         number: 0,
         length: len,
