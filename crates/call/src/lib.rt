@@ -1,11 +1,10 @@
-// What the relations call is asked and what it answers: tables of bytes are read and checked here.
+// What the relations call is asked and what it answers. Its tables of bytes are read here.
 ghost use mathlib.Core.Path.{_≡_};
 ghost use mathlib.Core.Bool.{true};
 ghost use mathlib.Core.Logic.{_↔_};
 ghost use Prim.Native.Nat.{_+_, _*_, _<_, _≤_};
 ghost use lib.ListN.{length};
 ghost use Rattle.call.specs.Tables.{rowsOf, rowAt, Loaded, Stray};
-ghost use Rattle.call.specs.Call.{WrongCount, FirstOf, checks};
 
 // The answer of the relations call. Every number is 0 unless the paper says otherwise.
 pub struct RelationsAnswer {
@@ -53,7 +52,7 @@ pub fn load(table: &[u8], n: usize, rows: &mut [u32])
 }
 
 // Whether one of the table's n rows has a bit at or above n.
-fn stray(table: &[u8], n: usize) -> bool
+pub fn stray(table: &[u8], n: usize) -> bool
     requires { ⌜ (n ≤ 32) × (length (now table) ≡ 4 * n) ⌝ }
     ensures { λ r. ⌜ (r ≡ true) ↔ Stray n (rowsOf (now (table .entry))) ⌝ }
 {
@@ -67,39 +66,4 @@ fn stray(table: &[u8], n: usize) -> bool
         return false;
     }
     all >> n != 0
-}
-
-// Refusal 17: the count, or a table of another length than it asks.
-fn wrong_count(n: usize, causes: &[u8], stalls: &[u8]) -> bool
-    ensures { λ r. ⌜ (r ≡ true) ↔ WrongCount n (now (causes .entry)) (now (stalls .entry)) ⌝ }
-{
-    if n == 0 {
-        return true;
-    }
-    if 32 < n {
-        return true;
-    }
-    if causes.len() != 4 * n {
-        return true;
-    }
-    stalls.len() != 4 * n
-}
-
-// The number of the first check that fails, 0 where none does.
-pub fn first_check(n: usize, causes: &[u8], stalls: &[u8], room: usize) -> u8
-    ensures { λ r. ⌜ FirstOf (checks n (now (causes .entry)) (now (stalls .entry)) room) r ⌝ }
-{
-    if wrong_count(n, causes, stalls) {
-        return 17;
-    }
-    if stray(causes, n) {
-        return 18;
-    }
-    if stray(stalls, n) {
-        return 18;
-    }
-    if room < n {
-        return 16;
-    }
-    0
 }

@@ -6,14 +6,11 @@ use Prim.Native.Nat.{ℕ}
 use lib.ListN.{length}
 use Rattle.text.specs.declared.Name.{Name}
 use Rattle.text.specs.Parts.{sameText}
-use Rattle.text.specs.Name.{nameRule, nameText, nameOf}
+use Rattle.text.specs.Name.{nameText, nameOf}
 use Rattle.text.proofs.Determined.{one-answer}
 
 pub no-name-determined : (r s : Name) → r ≡ nameOf [] → s ≡ nameOf [] → r ≡ s
 no-name-determined r s = one-answer
-
-pub is-name-determined : (l : List ℕ) (r s : Bool) → r ≡ nameRule l → s ≡ nameRule l → r ≡ s
-is-name-determined l r s = one-answer
 
 pub name-of-determined : (l : List ℕ) (r s : Name) → r ≡ nameOf l → s ≡ nameOf l → r ≡ s
 name-of-determined l r s = one-answer

@@ -1,10 +1,10 @@
-// Names: the rule that their bytes keep, and how they are kept in tables.
+// Names as they are kept in tables.
 ghost use mathlib.Core.Path.{_≡_};
 ghost use mathlib.Core.List.{[]};
 ghost use Prim.Native.Nat.{_≤_};
 ghost use lib.ListN.{length};
 ghost use Rattle.text.specs.Parts.{sameText};
-ghost use Rattle.text.specs.Name.{nameByte, nameRule, nameText, nameOf};
+ghost use Rattle.text.specs.Name.{nameText, nameOf};
 
 // The name that tables are cleared to.
 pub fn no_name() -> text::Name
@@ -14,37 +14,6 @@ pub fn no_name() -> text::Name
         bytes: [0u8; 24],
         length: 0,
     }
-}
-
-// Whether a name may hold this byte.
-fn name_byte(b: u8) -> bool
-    ensures { λ r. ⌜ r ≡ nameByte b ⌝ }
-{
-    match b {
-        b'a'..=b'z' | b'A'..=b'Z' | b'0'..=b'9' | b'-' | b'+' | b'_' | b'.' => true,
-        _ => false,
-    }
-}
-
-// Whether the bytes keep the name rule.
-pub fn is_name(part: &[u8]) -> bool
-    ensures { λ r. ⌜ r ≡ nameRule (now (part .entry)) ⌝ }
-{
-    if part.len() < 1 {
-        return false;
-    }
-    if 24 < part.len() {
-        return false;
-    }
-    let mut i = 0;
-    while i < part.len() {
-        let b = part[i];
-        if !name_byte(b) {
-            return false;
-        }
-        i += 1;
-    }
-    true
 }
 
 // The name with these bytes.

@@ -316,7 +316,7 @@ fn name_fits(line: &[u8], f: Fields, i: usize) -> bool
     requires { ⌜ FieldsAre (now line) f × (i < f .count) ⌝ }
     ensures { λ r. ⌜ r ≡ nameRule (field (split 9 (now (line .entry))) i) ⌝ }
 {
-    naming::is_name(field_at(line, f, i))
+    name_rule::is_name(field_at(line, f, i))
 }
 
 // The name that field i is.

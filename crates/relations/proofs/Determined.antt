@@ -8,7 +8,7 @@ use Rattle.rows.specs.Rows.{ofRows}
 use Rattle.call.specs.Tables.{rowsOf}
 use Rattle.call.specs.Call.{checks, Refused, Call, packed, Packed}
 use Rattle.call.specs.declared.RelationsAnswer.{RelationsAnswer}
-use Rattle.call.proofs.Determined.{first-one}
+use Rattle.checks.proofs.Determined.{first-one}
 use Rattle.bare_plans.proofs.Determined.{same-answer, planned-one}
 
 refused-one : (n : ℕ) (old new new′ : List ℕ) (r s : RelationsAnswer) → r .number ≡ s .number → Refused n old new r → Refused n old new′ s → (r ≡ s) × (new ≡ new′)

@@ -23,7 +23,7 @@ fn refusal(number: u8, n: usize) -> call::RelationsAnswer
 pub fn relations(n: usize, causes: &[u8], stalls: &[u8], out: &mut [u8]) -> call::RelationsAnswer
     ensures { λ r. ⌜ Call n (now (causes .entry)) (now (stalls .entry)) (now (out .entry)) (now (out .exit)) r ⌝ }
 {
-    let number = call::first_check(n, causes, stalls, out.len());
+    let number = checks::first_check(n, causes, stalls, out.len());
     if number != 0 {
         return refusal(number, n);
     }

@@ -49,7 +49,7 @@ pub fn waits(causes: &mut [u32], stalls: &[u32], n: usize, waits: &mut [u32])
     ensures { λ _. ⌜ Closure n (now (causes .entry)) (now (causes .exit)) ⌝ }
     ensures { λ _. ⌜ WaitsRows n (now (causes .entry)) (now (stalls .entry)) (now (waits .entry)) (now (waits .exit)) ⌝ }
 {
-    rows::closure(causes, n);
+    closure::closure(causes, n);
     gather(causes, stalls, n, waits);
 }
 

@@ -1,10 +1,10 @@
--- `rows::round` meets its contract. Assumes nothing.
+-- `closure::round` meets its contract. Assumes nothing.
 use Prim.Native.Nat.{_-_}
 use mathlib.Core.Path.{refl}
 use native.Mathlib.Omega.{arith}
-use Rattle.rows.proofs.Warshall.{RoundInv, round-start, round-step, round-end}
-use Rattle.rows.proofs.round.Statement.{statement}
-use Rattle.rows.proofs.round.Tie as tie
+use Rattle.closure.proofs.Warshall.{RoundInv, round-start, round-step, round-end}
+use Rattle.closure.proofs.round.Statement.{statement}
+use Rattle.closure.proofs.round.Tie as tie
 
 abbrev Inv-loop : tie.InvT-loop
 Inv-loop t₀ n k own i₀ t i = RoundInv t₀ n k own t i

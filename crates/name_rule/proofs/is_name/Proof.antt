@@ -1,4 +1,4 @@
--- `naming::is_name` meets its contract.
+-- `name_rule::is_name` meets its contract.
 use mathlib.Core.Path.{_≡_, refl, sym, _∙_}
 use Prim.Native.Nat.{_≤_, _-_}
 use lib.ListN.{length, drop}
@@ -7,8 +7,8 @@ use borrow.Author.Needs.{needs}
 use borrow.Author.Tests.{not-true, not-false}
 use Rattle.text.specs.Name.{nameByte, every}
 use Rattle.text.proofs.NameLaws.{rule-short, rule-bytes, every-next, every-fails, every-end}
-use Rattle.naming.proofs.is_name.Statement.{statement}
-use Rattle.naming.proofs.is_name.Tie as tie
+use Rattle.name_rule.proofs.is_name.Statement.{statement}
+use Rattle.name_rule.proofs.is_name.Tie as tie
 
 abbrev Inv-loop : tie.InvT-loop
 Inv-loop part i₀ i = (i ≤ length part) × (1 ≤ length part) × (length part ≤ 24) × (every nameByte (drop i part) ≡ every nameByte part)

@@ -1,12 +1,12 @@
--- `naming::name_byte` meets its contract.
+-- `name_rule::name_byte` meets its contract.
 use mathlib.Core.Logic.{inl, inr, ⊎-elim}
 use Prim.Native.Nat.{_≤_}
 use native.Mathlib.Nat.{eq-or-lt-of-le}
 use mathlib.Core.Path.{_≡_, sym}
 use native.Mathlib.Omega.{arith}
 use Rattle.text.proofs.NameLaws.{no-name-byte, yes-name-byte}
-use Rattle.naming.proofs.name_byte.Statement.{statement}
-use Rattle.naming.proofs.name_byte.Tie as tie
+use Rattle.name_rule.proofs.name_byte.Statement.{statement}
+use Rattle.name_rule.proofs.name_byte.Tie as tie
 
 returns : tie.Need-returns
 returns c = sym (no-name-byte (c .before .before .args .b) (λ h k. omega arith) (λ h k. omega arith) (λ h k. omega arith) (λ e. omega arith) (λ e. c .before .match .rest .1 (inl e)) (λ e. omega arith) (λ e. omega arith))

@@ -1,12 +1,12 @@
--- `call::wrong_count` meets its contract. Assumes nothing.
+-- `checks::wrong_count` meets its contract. Assumes nothing.
 use Prim.Native.Nat.{_*_}
 use mathlib.Core.Logic.{inl, inr}
 use lib.ListN.{length}
 use borrow.Author.Needs.{needs}
 use Rattle.call.specs.Call.{WrongCount}
 use Rattle.call.proofs.Tables.{told-yes, told-differ, right-count}
-use Rattle.call.proofs.wrong_count.Statement.{statement}
-use Rattle.call.proofs.wrong_count.Tie as tie
+use Rattle.checks.proofs.wrong_count.Statement.{statement}
+use Rattle.checks.proofs.wrong_count.Tie as tie
 
 returns : tie.Need-returns
 returns c = told-yes _ (inl (inl (c .if1 .taken)))

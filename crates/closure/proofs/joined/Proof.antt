@@ -1,8 +1,8 @@
--- `rows::joined` meets its contract. Assumes nothing.
+-- `closure::joined` meets its contract. Assumes nothing.
 use borrow.Author.Needs.{needs}
-use Rattle.rows.proofs.Warshall.{joined-yes, joined-no}
-use Rattle.rows.proofs.joined.Statement.{statement}
-use Rattle.rows.proofs.joined.Tie as tie
+use Rattle.closure.proofs.Warshall.{joined-yes, joined-no}
+use Rattle.closure.proofs.joined.Statement.{statement}
+use Rattle.closure.proofs.joined.Tie as tie
 
 cast-if1 : tie.Need-cast-if1
 cast-if1 c = search needs

@@ -1,12 +1,12 @@
--- `call::first_check` meets its contract. Assumes nothing.
+-- `checks::first_check` meets its contract. Assumes nothing.
 use mathlib.Core.Logic.{inl, inr, ⊎-elim}
 use mathlib.Core.Path.{refl}
 use native.Mathlib.Omega.{arith}
 use borrow.Author.Needs.{needs}
 use Rattle.call.specs.Call.{WrongCount, StrayBit}
 use Rattle.call.proofs.Calls.{flag-no, right}
-use Rattle.call.proofs.first_check.Statement.{statement}
-use Rattle.call.proofs.first_check.Tie as tie
+use Rattle.checks.proofs.first_check.Statement.{statement}
+use Rattle.checks.proofs.first_check.Tie as tie
 
 -- past the first test
 counted : (c : tie.Else1) → let a = c .before .before .before .before .args in ¬ WrongCount (a .n) (a .causes .now) (a .stalls .now)

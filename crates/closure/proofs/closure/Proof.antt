@@ -1,9 +1,9 @@
--- `rows::closure` meets its contract. Assumes nothing.
+-- `closure::closure` meets its contract. Assumes nothing.
 use Prim.Native.Nat.{_-_}
 use native.Mathlib.Omega.{arith}
-use Rattle.rows.proofs.Warshall.{CloseInv, close-start, close-step, close-end}
-use Rattle.rows.proofs.closure.Statement.{statement}
-use Rattle.rows.proofs.closure.Tie as tie
+use Rattle.closure.proofs.Warshall.{CloseInv, close-start, close-step, close-end}
+use Rattle.closure.proofs.closure.Statement.{statement}
+use Rattle.closure.proofs.closure.Tie as tie
 
 abbrev Inv-loop : tie.InvT-loop
 Inv-loop t₀ n k₀ t k = CloseInv t₀ n t k
