@@ -86,8 +86,8 @@ fn more_tabbed(out: &mut [u8], at: usize, n: u32) -> usize
     requires { ⌜ at + length (tabbedNumber n) ≤ length (now out) ⌝ }
     ensures { λ r. ⌜ Pasted (tabbedNumber n) at (now (out .entry)) (now (out .exit)) r ⌝ }
 {
-    let b = text::more(out, at, b"\t");
-    text::more_number(out, b, n)
+    let b = writers::more(out, at, b"\t");
+    writers::more_number(out, b, n)
 }
 
 // What a program prints on a refusal, at the front of out.
@@ -99,5 +99,5 @@ pub fn put_refused(out: &mut [u8], number: u8, paper: u8, line: u32) -> usize
     let b = more_tabbed(out, a, number as u32);
     let c = more_tabbed(out, b, paper as u32);
     let d = more_tabbed(out, c, line);
-    text::more(out, d, b"\n")
+    writers::more(out, d, b"\n")
 }

@@ -77,7 +77,7 @@ fn step_length(step: Step) -> usize
 {
     let from = step.from;
     let to = step.to;
-    8 + text::name_length(from) + word_length(step.waits) + text::name_length(to)
+    8 + naming::name_length(from) + word_length(step.waits) + naming::name_length(to)
 }
 
 // How many bytes the listing of an unfit mapping has.
@@ -105,9 +105,9 @@ fn more_word(out: &mut [u8], at: usize, waits: bool) -> usize
     ensures { λ r. ⌜ Pasted (between (wordText (pickWord waits))) at (now (out .entry)) (now (out .exit)) r ⌝ }
 {
     if waits {
-        return text::more(out, at, b"\twaits\t");
+        return writers::more(out, at, b"\twaits\t");
     }
-    text::more(out, at, b"\tqueues\t")
+    writers::more(out, at, b"\tqueues\t")
 }
 
 // The step's line at the front of out.
@@ -118,10 +118,10 @@ fn put_step(out: &mut [u8], step: Step) -> usize
     let from = step.from;
     let to = step.to;
     let a = text::put(out, b"step\t");
-    let b = text::more_name(out, a, from);
+    let b = writers::more_name(out, a, from);
     let c = more_word(out, b, step.waits);
-    let d = text::more_name(out, c, to);
-    text::more(out, d, b"\n")
+    let d = writers::more_name(out, c, to);
+    writers::more(out, d, b"\n")
 }
 
 // The lines of all steps, from a place of out on. Each is lent the rest of the output.

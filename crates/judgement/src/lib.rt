@@ -14,7 +14,7 @@ fn judge_rows(waits: [u32; 32], steps: [u32; 32], n: usize) -> Judged
     ensures { λ r. ⌜ RowsJudged waits steps n r ⌝ }
 {
     let mut bytes = [0u8; 32];
-    let length = walks::cycle(&waits, &steps, n, &mut bytes);
+    let length = cycles::cycle(&waits, &steps, n, &mut bytes);
     let cycle = verdicts::messages_of(bytes);
     Judged {
         length: length,

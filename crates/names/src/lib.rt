@@ -34,7 +34,7 @@ pub fn message_named(messages: [MessageRow; 32], count: usize, part: &[u8]) -> F
     while i < count {
         let row = messages[i];
         let name = row.name;
-        if text::named(name, part) {
+        if naming::named(name, part) {
             return FoundMessage::At(Message(i as u8));
         }
         i += 1;
@@ -51,7 +51,7 @@ pub fn event_named(events: [EventRow; 8], count: usize, part: &[u8]) -> FoundEve
     while i < count {
         let row = events[i];
         let name = row.name;
-        if text::named(name, part) {
+        if naming::named(name, part) {
             return FoundEvent::At(Event(i as u8));
         }
         i += 1;

@@ -17,7 +17,7 @@ use text::Name;
 fn tabbed_length(name: Name) -> usize
     ensures { λ r. ⌜ TextLength (tab ++ nameText name) 25 r ⌝ }
 {
-    1 + text::name_length(name)
+    1 + naming::name_length(name)
 }
 
 // How many bytes the names of the messages have, each behind a tab.
@@ -44,7 +44,7 @@ fn put_name(out: &mut [u8], name: Name) -> usize
     ensures { λ r. ⌜ Wrote (tab ++ nameText name) (now (out .entry)) (now (out .exit)) r ⌝ }
 {
     let a = text::put(out, b"\t");
-    text::more_name(out, a, name)
+    writers::more_name(out, a, name)
 }
 
 // The names of these messages, each behind a tab.
@@ -72,7 +72,7 @@ fn put_cycle(out: &mut [u8], messages: [MessageRow; 32], cycle: [Message; 32], n
 {
     let a = text::put(out, b"cycle");
     let b = a + put_names(&mut out[a..], messages, cycle, n);
-    text::more(out, b, b"\n")
+    writers::more(out, b, b"\n")
 }
 
 // Class 2: the listing of a shown cycle, if there is room for it.

@@ -10,9 +10,9 @@ pub fn put_number_line(out: &mut [u8], word: &[u8], n: u32) -> usize
     ensures { λ r. ⌜ Wrote (numberLine (now (word .entry)) n) (now (out .entry)) (now (out .exit)) r ⌝ }
 {
     let a = text::put(out, word);
-    let b = text::more(out, a, b"\t");
-    let c = text::more_number(out, b, n);
-    text::more(out, c, b"\n")
+    let b = writers::more(out, a, b"\t");
+    let c = writers::more_number(out, b, n);
+    writers::more(out, c, b"\n")
 }
 
 // The header and the class.
@@ -21,6 +21,6 @@ pub fn put_head(out: &mut [u8], class: u32) -> usize
     ensures { λ r. ⌜ Wrote (classHead class) (now (out .entry)) (now (out .exit)) r ⌝ }
 {
     let a = text::put(out, b"vn-plan\t1");
-    let b = text::more(out, a, b"\n");
+    let b = writers::more(out, a, b"\n");
     b + put_number_line(&mut out[b..], b"class", class)
 }

@@ -30,7 +30,7 @@ fn map_length(name: Name, network: Network) -> usize
     ensures { λ r. ⌜ TextLength (mapLine (nameText name) (network .0)) 33 r ⌝ }
 {
     let n = network.0;
-    6 + text::name_length(name) + digits(n)
+    6 + naming::name_length(name) + digits(n)
 }
 
 // How many bytes the lines of all messages have.
@@ -57,11 +57,11 @@ fn put_map(out: &mut [u8], name: Name, network: Network) -> usize
 {
     let n = network.0;
     let a = text::put(out, b"map");
-    let b = text::more(out, a, b"\t");
-    let c = text::more_name(out, b, name);
-    let d = text::more(out, c, b"\t");
-    let e = text::more_number(out, d, n as u32);
-    text::more(out, e, b"\n")
+    let b = writers::more(out, a, b"\t");
+    let c = writers::more_name(out, b, name);
+    let d = writers::more(out, c, b"\t");
+    let e = writers::more_number(out, d, n as u32);
+    writers::more(out, e, b"\n")
 }
 
 // A line for each message.

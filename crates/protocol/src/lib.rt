@@ -83,7 +83,7 @@ fn read_messages(text: &[u8], from: usize, first: usize, given: Tables) -> Progr
     while at < text.len() {
         let e = text::find(text, 10, at, text.len());
         let part = &text[at..e];
-        let f = text::fields_of(part, 0, part.len());
+        let f = fields::fields_of(part, 0, part.len());
         if !records::is_record(part, f, b"message") {
             return reached(0, line, at, t);
         }
@@ -113,7 +113,7 @@ fn read_events(text: &[u8], from: usize, first: usize, given: Tables) -> Progres
     while at < text.len() {
         let e = text::find(text, 10, at, text.len());
         let part = &text[at..e];
-        let f = text::fields_of(part, 0, part.len());
+        let f = fields::fields_of(part, 0, part.len());
         if !records::is_record(part, f, b"event") {
             return reached(0, line, at, t);
         }
@@ -144,7 +144,7 @@ fn read_states(text: &[u8], from: usize, first: usize, given: Tables) -> Progres
     while at < text.len() {
         let e = text::find(text, 10, at, text.len());
         let part = &text[at..e];
-        let f = text::fields_of(part, 0, part.len());
+        let f = fields::fields_of(part, 0, part.len());
         if !records::is_record(part, f, b"state") {
             return reached(0, line, at, t);
         }
@@ -197,7 +197,7 @@ fn read_cells(text: &[u8], from: usize, first: usize, given: Tables) -> Progress
     while at < text.len() {
         let e = text::find(text, 10, at, text.len());
         let part = &text[at..e];
-        let f = text::fields_of(part, 0, part.len());
+        let f = fields::fields_of(part, 0, part.len());
         if !records::is_record(part, f, b"cell") {
             let number = records::misplaced(part, f);
             return reached(number, line, at, t);

@@ -34,7 +34,7 @@ fn state_has(row: StateRow, controller: Controller, part: &[u8]) -> bool
         return false;
     }
     let name = row.name;
-    text::named(name, part)
+    naming::named(name, part)
 }
 
 // The controller's state with this name, among the first rows.

@@ -11,7 +11,7 @@ pub fn waits_of(causes: [u32; 32], stalls: [u32; 32], n: usize) -> [u32; 32]
 {
     let mut closed = causes;
     let mut waits = [0u32; 32];
-    relations::waits(&mut closed, &stalls, n, &mut waits);
+    waits::waits(&mut closed, &stalls, n, &mut waits);
     waits
 }
 

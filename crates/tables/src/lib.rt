@@ -91,7 +91,7 @@ pub fn no_cell() -> Cell
 pub fn cleared() -> Tables
     ensures { λ r. ⌜ r ≡ clearedTables ⌝ }
 {
-    let name = text::no_name();
+    let name = naming::no_name();
     let message = MessageRow {
         name: name,
         kind: Kind::Req,

@@ -76,11 +76,11 @@ fn plan_rows(waits: [u32; 32], n: usize) -> Planned
     ensures { λ r. ⌜ RowsPlan waits n r ⌝ }
 {
     let mut bytes = [0u8; 32];
-    let count = walks::heights(&waits, n, &mut bytes);
+    let count = heights::heights(&waits, n, &mut bytes);
     if count != 0 {
         return ranked(count, bytes);
     }
-    let length = walks::cycle(&waits, &waits, n, &mut bytes);
+    let length = cycles::cycle(&waits, &waits, n, &mut bytes);
     cycled(length, bytes)
 }
 
