@@ -8,7 +8,7 @@ use lib.ListN.{getD, replicate}
 use lib.Seq.{ext-getD}
 use Rattle.rules.specs.Rules.{Mapping}
 use Rattle.rows.proofs.Determined.{Wide, told-one}
-use Rattle.relations.proofs.Determined.{waits-one}
+use Rattle.waits.proofs.Determined.{waits-one}
 use Rattle.steps.specs.Steps.{WaitsOnly, StepsRows}
 
 pub waits-of-one : (w n : ℕ) (causes stalls r s : List ℕ) → Wide w r → Wide w s → WaitsOnly n causes stalls r → WaitsOnly n causes stalls s → r ≡ s

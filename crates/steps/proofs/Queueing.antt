@@ -12,7 +12,7 @@ use Rattle.rows.specs.Rows.{Bit, Rows, ofRows}
 use Rattle.rows.specs.Row.{With, Join}
 use Rattle.rows.proofs.Bits.{bit-zero}
 use Rattle.rows.proofs.Filling.{Filling, fill-each, fill-kept}
-use Rattle.relations.proofs.Tables.{StrayInv}
+use Rattle.call.proofs.Tables.{StrayInv}
 use Rattle.steps.specs.Steps.{StepsRows, StalledRow, Behind, WithBehind, QueuesRow}
 
 -- all rows are taken in

@@ -8,7 +8,7 @@ use Rattle.rules.specs.declared.Network.{Network}
 use Rattle.rules.specs.Rules.{Mapping, Queues}
 use Rattle.rows.specs.Rows.{Bit, ofRows}
 use Rattle.rows.specs.Closure.{Kept}
-use Rattle.relations.specs.Waiting.{WaitsRows}
+use Rattle.waits.specs.Waiting.{WaitsRows}
 
 -- The mapping that these networks give: message m is in the network at place m.
 abbrev pub mappingOf : List Network → Mapping

@@ -1,6 +1,6 @@
 // The rows of steps among a protocol's messages: waits steps by rule 4, queues steps by rule 5.
 ghost use Prim.Native.Nat.{_<_, _≤_};
-ghost use Rattle.relations.specs.Tables.{Tidy};
+ghost use Rattle.waits.specs.Waiting.{Tidy};
 ghost use Rattle.steps.specs.Steps.{mappingOf, WaitsOnly, StepsRows, StalledRow, WithBehind, QueuesRow};
 use rules::Network;
 

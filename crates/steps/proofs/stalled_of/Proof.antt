@@ -2,7 +2,7 @@
 use Prim.Native.Nat.{_-_, _<_, _^_}
 use native.Mathlib.Omega.{arith}
 use borrow.Author.Needs.{needs}
-use Rattle.relations.proofs.Tables.{StrayInv, stray-start, stray-step}
+use Rattle.call.proofs.Tables.{StrayInv, stray-start, stray-step}
 use Rattle.steps.proofs.Queueing.{stalled-end}
 use Rattle.steps.proofs.stalled_of.Statement.{statement}
 use Rattle.steps.proofs.stalled_of.Tie as tie
