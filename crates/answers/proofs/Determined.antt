@@ -7,7 +7,10 @@ use lib.ListN.{length}
 use lib.Dec.{ltb}
 use borrow.Author.Tests.{ltb-true, ltb-false}
 use Rattle.answers.specs.declared.Answer.{Answer}
-use Rattle.answers.specs.Answers.{refusedAt, noRoom, finished, packedAnswer, Listed, ListedDetermined}
+use Rattle.answers.specs.Answers.{refusedAt, noRoom, finished, packedAnswer, Refused, Listed, ListedDetermined}
+use Rattle.text.specs.Written.{Wrote}
+use Rattle.text.proofs.Determined.{wrote-determined}
+use Rattle.answers.specs.RefusedText.{refusedText}
 
 -- a contract that gives the result outright
 one-answer : {A : Type 0} {x r s : A} → r ≡ x → s ≡ x → r ≡ s
@@ -24,6 +27,16 @@ finished-determined n r s = one-answer
 
 pub packed-determined : (a : Answer) (r s : ℕ) → r ≡ packedAnswer a → s ≡ packedAnswer a → r ≡ s
 packed-determined a r s = one-answer
+
+pub put-refused-determined : (number paper line : ℕ) (old new new′ : List ℕ) (m n : ℕ) → Wrote (refusedText number paper line) old new m
+    → Wrote (refusedText number paper line) old new′ n → (m ≡ n) × (new ≡ new′)
+put-refused-determined number paper line = wrote-determined (refusedText number paper line)
+
+-- ---- refusals
+
+pub refusal-determined : (number paper line : ℕ) (old new new′ : List ℕ) (r r′ : Answer) → Refused number paper line old new r
+    → Refused number paper line old new′ r′ → (r ≡ r′) × (new ≡ new′)
+refusal-determined number paper line old new new′ r r′ v w = (one-answer (v .answer) (w .answer), one-answer (v .bytes) (w .bytes))
 
 -- ---- listings
 

@@ -43,12 +43,6 @@ answer-empty w row h = (λ e a b. bit-zero a (subst (λ (r : ℕ). Bit r a) (eqb
 pub no-entry-row : (cells : List RuleCell) (P : ℕ → Type 0) (c : RuleCell) → ((a : ℕ) → P a ↔ Carries cells a (c .state)) → CellNoEntry P c ↔ NoEntry cells c
 no-entry-row cells P c f = (λ t. (t .0, t .1, λ a k. t .2 a (f a .1 k)), λ t. (t .0, t .1, λ a p. t .2 a (f a .0 p)))
 
--- what a list is read as past its end does not matter within it
-pub getD-within : {A : Type 0} (l : List A) (i : ℕ) (x y : A) → i < length l → getD l i x ≡ getD l i y
-getD-within [] i x y h = absurd (omega arith)
-getD-within (e ∷ l) zero x y h = refl
-getD-within (e ∷ l) (suc i) x y h = getD-within l i x y (omega arith)
-
 -- what the code reads past the last cell
 abbrev pub zeroCell : Cell
 zeroCell = record { state = record { 0 = 0 }; trigger = OnMessage (record { 0 = 0 }); outcome = Stall; sent = []; «sent_count» = 0 }

@@ -14,10 +14,10 @@ use Rattle.tables.specs.declared.Tables.{Tables}
 use Rattle.tables.specs.Cells.{relationsOfTables}
 use Rattle.protocol.specs.Reading.{readProtocol}
 use Rattle.answers.specs.declared.Answer.{Answer}
-use Rattle.answers.specs.Answers.{Refused, Listed, packedAnswer}
+use Rattle.answers.specs.Answers.{Listed, packedAnswer}
 use Rattle.judge_listing.specs.JudgeText.{ShownStep, unfitText}
 use Rattle.verdicts.specs.Verdicts.{mappingOf}
-use Rattle.plan.proofs.Determined.{refused-one, listed-one}
+use Rattle.answers.proofs.Determined.{refusal-determined, listed-determined}
 use Rattle.judge.specs.Call.{Shows, ShowsAll, FitListing, UnfitListing, JudgeListing, Judged, mappedFor, AfterProtocol, Call, Packed}
 use Rattle.judge.specs.Determined.{JudgeDetermined, PackedDetermined}
 
@@ -61,7 +61,7 @@ listing-one t φ l m (inr v) (inr w) = unfit-one (t .messages) (relationsOfTable
 judged-one : (t : Tables) (φ : Mapping) (old new₁ new₂ : List ℕ) (r s : Answer) → Judged t φ old new₁ r → Judged t φ old new₂ s → (r ≡ s) × (new₁ ≡ new₂)
 judged-one t φ old new₁ new₂ r s v w =
     let same = listing-one t φ (w .listing) (v .listing) (w .allowed) (v .allowed) in
-    listed-one (v .listing) old new₁ new₂ r s (v .listed) (subst (λ (l : List ℕ). Listed l old new₂ s) same (w .listed))
+    listed-determined (v .listing) old new₁ new₂ r s (v .listed) (subst (λ (l : List ℕ). Listed l old new₂ s) same (w .listed))
 
 after-one : (t : Tables) (y old new₁ new₂ : List ℕ) (r s : Answer) → AfterProtocol t y old new₁ r → AfterProtocol t y old new₂ s → (r ≡ s) × (new₁ ≡ new₂)
 after-one t y old new₁ new₂ r s c d = go (eqb (mappedFor t y .number) 0) refl
@@ -72,7 +72,7 @@ after-one t y old new₁ new₂ r s c d = go (eqb (mappedFor t y .number) 0) ref
         judged-one t (mappingOf (mappedFor t y .networks)) old new₁ new₂ r s (c .judged a) (d .judged a)
     go false e =
         let n = eqb-false (mappedFor t y .number) 0 e in
-        refused-one (mappedFor t y .number) 1 (mappedFor t y .line) old new₁ new₂ r s (c .mapping-refused n) (d .mapping-refused n)
+        refusal-determined (mappedFor t y .number) 1 (mappedFor t y .line) old new₁ new₂ r s (c .mapping-refused n) (d .mapping-refused n)
 
 pub judge-determined : JudgeDetermined
 judge-determined x y old new₁ new₂ r s c d = go (eqb (readProtocol x .number) 0) refl
@@ -83,7 +83,7 @@ judge-determined x y old new₁ new₂ r s c d = go (eqb (readProtocol x .number
         after-one (readProtocol x .tables) y old new₁ new₂ r s (c .protocol-accepted z) (d .protocol-accepted z)
     go false e =
         let n = eqb-false (readProtocol x .number) 0 e in
-        refused-one (readProtocol x .number) 0 (readProtocol x .line) old new₁ new₂ r s (c .protocol-refused n) (d .protocol-refused n)
+        refusal-determined (readProtocol x .number) 0 (readProtocol x .line) old new₁ new₂ r s (c .protocol-refused n) (d .protocol-refused n)
 
 pub packed-determined : PackedDetermined
 packed-determined x y old new₁ new₂ j k v w =

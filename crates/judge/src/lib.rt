@@ -15,7 +15,7 @@ fn judge_tables(t: Tables, networks: [Network; 32], out: &mut [u8]) -> Answer
     requires { ⌜ TablesOk t × (0 < t .«message_count») ⌝ }
     ensures { λ r. ⌜ Judged t (mappingOf networks) (now (out .entry)) (now (out .exit)) r ⌝ }
 {
-    let found = verdicts::judge_of(t, networks);
+    let found = judgement::judge_of(t, networks);
     if found.length == 0 {
         return judge_listing::fit_listing(out);
     }

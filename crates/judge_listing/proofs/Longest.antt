@@ -4,20 +4,14 @@ use mathlib.Core.List.{List, [], _∷_, _++_}
 use Prim.Native.Nat.{ℕ, suc, _+_, _*_, _≤_}
 use native.Mathlib.Omega.{arith}
 use lib.ListN.{length, take, getD, length-append, length-take, length-map}
-use Rattle.rules.specs.declared.Message.{Message}
 use Rattle.rules.specs.Plan.{Word, waits, queues}
 use Rattle.tables.specs.declared.MessageRow.{MessageRow}
 use Rattle.tables.specs.Tables.{noMessage}
-use Rattle.plan_listing.specs.PlanText.{nameAt, messageNo, firstMessages}
+use Rattle.plan_listing.specs.PlanText.{nameAt}
 use Rattle.judge_listing.specs.JudgeText.{ShownStep, stepLine, wordText, wordIn, verdictHead, fitText, stepText, stepTexts}
-use Rattle.judge_listing.specs.Steps.{walkSteps}
-use Rattle.judge_listing.specs.Longest.{ShortNames, KeptNames, FitLength, LongestUnfit}
-use Rattle.judge_listing.proofs.Places.{steps-length}
-use Rattle.judge_listing.proofs.StepLines.{name-short, unfit-length}
-
-pub kept-names : KeptNames
-unfolding nameAt
-kept-names rows h m = name-short (getD rows m noMessage .name) (h m)
+use Rattle.plan_listing.specs.Lengths.{ShortNames}
+use Rattle.judge_listing.specs.Longest.{FitLength, LongestUnfit}
+use Rattle.judge_listing.proofs.StepLines.{unfit-length}
 
 pub fit-length : FitLength
 unfolding fitText verdictHead
@@ -28,7 +22,7 @@ word-short waits = omega arith
 word-short queues = omega arith
 
 step-short : (rows : List MessageRow) (s : ShownStep) → ShortNames rows → length (stepText rows s) ≤ 62
-unfolding stepText stepLine
+unfolding nameAt stepText stepLine
 step-short rows s h = simp length-append (omega (arith, h (s .from), word-short (s .word), h (s .to)))
 
 steps-short : (rows : List MessageRow) (steps : List ShownStep) → ShortNames rows → length (stepTexts rows steps) ≤ 62 * length steps
@@ -36,10 +30,5 @@ unfolding stepTexts
 steps-short rows [] h = omega arith
 steps-short rows (s ∷ ss) h = omega (arith, length-append (stepText rows s) (stepTexts rows ss), step-short rows s h, steps-short rows ss h)
 
-first-few : (n : ℕ) (l : List Message) → length (firstMessages n l) ≤ n
-unfolding firstMessages
-first-few n l = omega (arith, length-map (take n l) messageNo, length-take n l)
-
 pub longest-unfit : LongestUnfit
-longest-unfit rows table n cycle h k =
-    omega (arith, unfit-length rows (walkSteps table n cycle), steps-short rows (walkSteps table n cycle) h, steps-length (wordIn table) (firstMessages n cycle), first-few n cycle)
+longest-unfit rows steps h k = omega (arith, unfit-length rows steps, steps-short rows steps h, k)

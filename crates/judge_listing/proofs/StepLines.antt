@@ -19,12 +19,17 @@ use Rattle.text.proofs.Written.{pasted-part, pasted-length, next-room, pasted-n
 use Rattle.tables.specs.declared.Kind.the-variants.{Req}
 use Rattle.tables.specs.declared.MessageRow.{MessageRow}
 use Rattle.tables.specs.Tables.{noMessage}
-use Rattle.tables.proofs.AllCells.{getD-within}
+use Rattle.tables.proofs.Stored.{getD-within}
 use Rattle.plan_listing.specs.PlanText.{nameAt}
 use Rattle.judge_listing.specs.declared.Step.{Step}
 use Rattle.judge_listing.specs.JudgeText.{ShownStep, stepsOf, stepLine, verdictHead, unfitText, stepText, stepTexts, wordText, pickWord, wordIn}
 use Rattle.judge_listing.specs.Steps.{nextPlace, stepOf, stepAt, lineOf}
 use Rattle.judge_listing.proofs.Places.{steps-length, steps-at, bit-test}
+
+-- the header's line, and the verdict's
+pub verdict-length : (v : List ℕ) → length (verdictHead v) ≡ 12 + length v
+unfolding verdictHead
+verdict-length v = simp length-append (omega arith)
 
 -- the name in the row of a message
 pub name-at : (rows : List MessageRow) (k m : ℕ) → k ≡ m → m < length rows

@@ -7,8 +7,8 @@ use mathlib.Core.List.{List}
 use native.Mathlib.Omega.{arith}
 use lib.ListN.{length, getD}
 use lib.Seq.{ext-getD}
-use lib.Dec.{eqb, ltb}
-use borrow.Author.Tests.{eqb-true, eqb-false, ltb-true, ltb-false}
+use lib.Dec.{eqb}
+use borrow.Author.Tests.{eqb-true, eqb-false}
 use Rattle.rules.specs.Rules.{Relations}
 use Rattle.rules.proofs.Promises.{determined, one-class}
 use Rattle.tables.specs.declared.MessageRow.{MessageRow}
@@ -17,7 +17,8 @@ use Rattle.tables.specs.Tables.{messagesOf}
 use Rattle.tables.specs.Cells.{relationsOfTables}
 use Rattle.protocol.specs.Reading.{readProtocol}
 use Rattle.answers.specs.declared.Answer.{Answer}
-use Rattle.answers.specs.Answers.{Refused, Listed, NoRoom, Finished, packedAnswer}
+use Rattle.answers.specs.Answers.{Listed, packedAnswer}
+use Rattle.answers.proofs.Determined.{refusal-determined, listed-determined}
 use Rattle.plan_listing.specs.PlanText.{classThree, classTwo}
 use Rattle.plan.specs.Call.{Three, Two, PlanListing, Planned, Call, Packed}
 use Rattle.plan.specs.Determined.{PlanDetermined, PackedDetermined}
@@ -41,20 +42,6 @@ listing-one t l m (inr v) (inr w) = two-one (t .messages) (relationsOfTables t) 
 
 -- ---- the call
 
-pub refused-one : (a b c : ℕ) (old new₁ new₂ : List ℕ) (r s : Answer) → Refused a b c old new₁ r → Refused a b c old new₂ s → (r ≡ s) × (new₁ ≡ new₂)
-refused-one a b c old new₁ new₂ r s v w = (v .answer ∙ sym (w .answer), v .bytes ∙ sym (w .bytes))
-
-pub listed-one : (l old new₁ new₂ : List ℕ) (r s : Answer) → Listed l old new₁ r → Listed l old new₂ s → (r ≡ s) × (new₁ ≡ new₂)
-listed-one l old new₁ new₂ r s v w = go (ltb (length old) (length l)) refl
-  where
-    go : (b : Bool) → ltb (length old) (length l) ≡ b → (r ≡ s) × (new₁ ≡ new₂)
-    go true e =
-        let h = ltb-true (length old) (length l) e in
-        (v .no-room h .answer ∙ sym (w .no-room h .answer), v .no-room h .bytes ∙ sym (w .no-room h .bytes))
-    go false e =
-        let h = ltb-false (length old) (length l) e in
-        (v .room h .answer ∙ sym (w .room h .answer), v .room h .bytes ∙ sym (w .room h .bytes))
-
 pub plan-determined : PlanDetermined
 plan-determined text old new₁ new₂ r s c d = go (eqb (readProtocol text .number) 0) refl
   where
@@ -64,10 +51,10 @@ plan-determined text old new₁ new₂ r s c d = go (eqb (readProtocol text .num
         let v = c .planned z in
         let w = d .planned z in
         let same = listing-one (readProtocol text .tables) (w .listing) (v .listing) (w .allowed) (v .allowed) in
-        listed-one (v .listing) old new₁ new₂ r s (v .listed) (subst (λ (l : List ℕ). Listed l old new₂ s) same (w .listed))
+        listed-determined (v .listing) old new₁ new₂ r s (v .listed) (subst (λ (l : List ℕ). Listed l old new₂ s) same (w .listed))
     go false e =
         let n = eqb-false (readProtocol text .number) 0 e in
-        refused-one (readProtocol text .number) 0 (readProtocol text .line) old new₁ new₂ r s (c .refused n) (d .refused n)
+        refusal-determined (readProtocol text .number) 0 (readProtocol text .line) old new₁ new₂ r s (c .refused n) (d .refused n)
 
 pub packed-determined : PackedDetermined
 packed-determined text old new₁ new₂ j k v w =

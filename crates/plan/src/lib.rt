@@ -15,10 +15,10 @@ fn plan_tables(t: Tables, out: &mut [u8]) -> Answer
     let messages = t.messages;
     if found.count != 0 {
         let networks = found.networks;
-        return plan_listing::map_listing(messages, t.message_count, networks, found.count, out);
+        return plan_maps::map_listing(messages, t.message_count, networks, found.count, out);
     }
     let cycle = found.cycle;
-    plan_listing::cycle_listing(messages, cycle, found.length, out)
+    plan_cycle::cycle_listing(messages, cycle, found.length, out)
 }
 
 // The plan of a protocol text.

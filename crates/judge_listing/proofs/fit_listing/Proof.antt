@@ -3,7 +3,8 @@ use mathlib.Core.Path.{refl}
 use native.Mathlib.Omega.{arith}
 use Rattle.text.specs.Words.{fitWord}
 use Rattle.judge_listing.specs.JudgeText.{verdictHead, fitText}
-use Rattle.judge_listing.proofs.Listings.{verdict-length, is-listed}
+use Rattle.answers.proofs.Listings.{listing-written}
+use Rattle.judge_listing.proofs.StepLines.{verdict-length}
 use borrow.Author.Needs.{needs}
 use Rattle.judge_listing.proofs.fit_listing.Statement.{statement}
 use Rattle.judge_listing.proofs.fit_listing.Tie as tie
@@ -29,7 +30,7 @@ same-length c = search needs
 
 returns-2 : tie.Need-returns-2
 unfolding fitText verdictHead
-returns-2 c = is-listed (verdictHead fitWord) (c .before .before .before .before .before .before .before .before .args .out .now) _ _ _ (omega (arith, verdict-length fitWord, c .before .before .before .before .before .before .if1 .left)) (c .before .before .before .put .ensures) (c .listed .ensures)
+returns-2 c = listing-written (verdictHead fitWord) (c .before .before .before .before .before .before .before .before .args .out .now) _ _ _ (omega (arith, verdict-length fitWord, c .before .before .before .before .before .before .if1 .left)) (c .before .before .before .put .ensures) (c .listed .ensures)
 
 pub fit-listing-spec : {M : Type 1} → statement M
 fit-listing-spec =

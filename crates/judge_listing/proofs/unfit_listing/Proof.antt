@@ -8,7 +8,8 @@ use Rattle.text.specs.Written.{Wrote}
 use Rattle.text.proofs.Written.{more-room, then-more}
 use Rattle.judge_listing.specs.JudgeText.{verdictHead, stepTexts, unfitText}
 use Rattle.judge_listing.specs.Steps.{walkSteps}
-use Rattle.judge_listing.proofs.Listings.{verdict-length, not-listed, is-listed}
+use Rattle.answers.proofs.Listings.{listing-refused, listing-written}
+use Rattle.judge_listing.proofs.StepLines.{verdict-length}
 use borrow.Author.Needs.{needs}
 use Rattle.judge_listing.proofs.unfit_listing.Statement.{statement}
 use Rattle.judge_listing.proofs.unfit_listing.Tie as tie
@@ -33,7 +34,7 @@ no-room-requires : tie.Need-no-room-requires
 no-room-requires c κs = search needs
 
 returns : tie.Need-returns
-returns c = not-listed (unfitText (c .before .before .before .before .args .messages) (walkSteps (c .before .before .before .before .args .waits) (c .before .before .before .before .args .length) (c .before .before .before .before .args .cycle))) (c .before .before .before .before .args .out .now) (c .before .before .unfit-length .result) _ (c .before .before .unfit-length .ensures) (c .before .if1 .taken) (c .no-room .ensures)
+returns c = listing-refused (unfitText (c .before .before .before .before .args .messages) (walkSteps (c .before .before .before .before .args .waits) (c .before .before .before .before .args .length) (c .before .before .before .before .args .cycle))) (c .before .before .before .before .args .out .now) (c .before .before .unfit-length .result) _ (c .before .before .unfit-length .ensures) (c .before .if1 .taken) (c .no-room .ensures)
 
 slice-aggregate-put : tie.Need-slice-aggregate-put
 slice-aggregate-put c = search needs
@@ -52,7 +53,7 @@ same-length c = search needs
 
 returns-2 : tie.Need-returns-2
 unfolding unfitText
-returns-2 c = is-listed (verdictHead unfitWord ++ Lines (c .before .before .before .before .before .before .before .before .before .before .before .before .before)) (c .before .before .before .before .before .before .before .before .before .before .before .before .before .args .out .now) _ (c .before .before .before .more-steps .result) _ (room (c .before .before .before .before .before .before .before .before .before .before)) (then-more (verdictHead unfitWord) (Lines (c .before .before .before .before .before .before .before .before .before .before .before .before .before)) (c .before .before .before .before .before .before .before .before .before .before .before .before .before .args .out .now) _ _ (room (c .before .before .before .before .before .before .before .before .before .before)) (head (c .before .before .before .before .before .before .before)) _ _ (c .before .before .before .more-steps .ensures)) (c .listed .ensures)
+returns-2 c = listing-written (verdictHead unfitWord ++ Lines (c .before .before .before .before .before .before .before .before .before .before .before .before .before)) (c .before .before .before .before .before .before .before .before .before .before .before .before .before .args .out .now) _ (c .before .before .before .more-steps .result) _ (room (c .before .before .before .before .before .before .before .before .before .before)) (then-more (verdictHead unfitWord) (Lines (c .before .before .before .before .before .before .before .before .before .before .before .before .before)) (c .before .before .before .before .before .before .before .before .before .before .before .before .before .args .out .now) _ _ (room (c .before .before .before .before .before .before .before .before .before .before)) (head (c .before .before .before .before .before .before .before)) _ _ (c .before .before .before .more-steps .ensures)) (c .listed .ensures)
 
 pub unfit-listing-spec : {M : Type 1} → statement M
 unfit-listing-spec =
