@@ -17,7 +17,7 @@ use Rattle.tables.specs.declared.MessageRow.{MessageRow}
 use Rattle.tables.specs.declared.Kind.the-variants.{Req}
 use Rattle.tables.specs.Tables.{noMessage}
 use Rattle.mapping.specs.Text.{mapFields, mapTexts}
-use Rattle.plan_listing.specs.PlanText.{numberLine, classHead, mapLine, classThree, nameAt, namesText, cycleLine, classTwo, messageNo, firstMessages, firstNetworks, MessagesBelow}
+use Rattle.plan_listing.specs.PlanText.{numberLine, classHead, mapText, classThree, nameAt, namesText, cycleLine, classTwo, messageNo, firstMessages, firstNetworks, MessagesBelow}
 use Rattle.plan_listing.specs.Lengths.{TextLength}
 use Rattle.plan_listing.proofs.Growing.{grows}
 
@@ -53,7 +53,7 @@ abbrev pub mapsTo : List MessageRow → List Network → ℕ → List ℕ
 mapsTo ms ns i = mapTexts (take i ms) (firstNetworks i ns)
 
 abbrev pub mapAt : MessageRow → Network → List MessageRow → List Network → ℕ → List ℕ
-mapAt d e ms ns i = mapLine (nameText (getD ms i d .name)) (getD ns i e .0)
+mapAt d e ms ns i = mapText (nameText (getD ms i d .name)) (getD ns i e .0)
 
 -- d and e are what is read past the end
 module _ (d : MessageRow) (e : Network) where
@@ -62,9 +62,9 @@ module _ (d : MessageRow) (e : Network) where
   unfolding mapTexts firstNetworks
   maps-suc [] ns i h k = absurd (omega arith)
   maps-suc (m ∷ ms) [] i h k = absurd (omega arith)
-  maps-suc (m ∷ ms) (n ∷ ns) zero h k = append-nil (mapLine (nameText (m .name)) (n .0))
+  maps-suc (m ∷ ms) (n ∷ ns) zero h k = append-nil (mapText (nameText (m .name)) (n .0))
   maps-suc (m ∷ ms) (n ∷ ns) (suc i) h k =
-      let first = mapLine (nameText (m .name)) (n .0) in
+      let first = mapText (nameText (m .name)) (n .0) in
       ap (λ (l : List ℕ). first ++ l) (maps-suc ms ns i (omega arith) (omega arith)) ∙ sym (append-assoc first (mapsTo ms ns i) (mapAt d e ms ns i))
 
   pub maps-more : (ms : List MessageRow) (ns : List Network) (i : ℕ) → i < length ms → i < length ns
@@ -143,9 +143,9 @@ digits-two n h k = omega (arith, length-step n h, digits-one (n / 10) (omega ari
 pub digits-three : (n : ℕ) → 100 ≤ n → n < 1000 → length (decimal n) ≡ 3
 digits-three n h k = omega (arith, length-step n (omega arith), digits-two (n / 10) (omega arith) (omega arith))
 
-pub map-line-length : (name : List ℕ) (n : ℕ) → length (mapLine name n) ≡ 6 + length name + length (decimal n)
+pub map-text-length : (name : List ℕ) (n : ℕ) → length (mapText name n) ≡ 6 + length name + length (decimal n)
 unfolding mapFields
-map-line-length name n = simp length-append (omega arith)
+map-text-length name n = simp length-append (omega arith)
 
 pub head-length : (class : ℕ) → class < 10 → length (classHead class) ≡ 18
 unfolding classHead numberLine

@@ -26,8 +26,8 @@ unfoldable pub classHead : ℕ → List ℕ
 classHead class = (planHeader ++ newline) ++ numberLine classWord class
 
 -- The line of a message and its network.
-abbrev pub mapLine : List ℕ → ℕ → List ℕ
-mapLine name n = mapFields name n ++ newline
+abbrev pub mapText : List ℕ → ℕ → List ℕ
+mapText name n = mapFields name n ++ newline
 
 -- Class 3: the least count, then a line for each message, as a mapping text has it.
 unfoldable pub classThree : List MessageRow → List ℕ → ℕ → List ℕ

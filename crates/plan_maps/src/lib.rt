@@ -5,7 +5,7 @@ ghost use Rattle.text.specs.Name.{nameText};
 ghost use Rattle.text.specs.Written.{decimal, Wrote};
 ghost use Rattle.mapping.specs.Text.{mapTexts};
 ghost use Rattle.answers.specs.Answers.{Listed};
-ghost use Rattle.plan_listing.specs.PlanText.{mapLine, classThree, firstNetworks};
+ghost use Rattle.plan_listing.specs.PlanText.{mapText, classThree, firstNetworks};
 ghost use Rattle.plan_listing.specs.Lengths.{TextLength};
 use answers::Answer;
 use rules::Network;
@@ -27,7 +27,7 @@ fn digits(n: u8) -> usize
 
 // How many bytes the line of a message and its network has.
 fn map_length(name: Name, network: Network) -> usize
-    ensures { λ r. ⌜ TextLength (mapLine (nameText name) (network .0)) 33 r ⌝ }
+    ensures { λ r. ⌜ TextLength (mapText (nameText name) (network .0)) 33 r ⌝ }
 {
     let n = network.0;
     6 + naming::name_length(name) + digits(n)
@@ -52,8 +52,8 @@ fn maps_length(messages: [MessageRow; 32], n: usize, networks: [Network; 32]) ->
 
 // A message and its network.
 fn put_map(out: &mut [u8], name: Name, network: Network) -> usize
-    requires { ⌜ length (mapLine (nameText name) (network .0)) ≤ length (now out) ⌝ }
-    ensures { λ r. ⌜ Wrote (mapLine (nameText name) (network .0)) (now (out .entry)) (now (out .exit)) r ⌝ }
+    requires { ⌜ length (mapText (nameText name) (network .0)) ≤ length (now out) ⌝ }
+    ensures { λ r. ⌜ Wrote (mapText (nameText name) (network .0)) (now (out .entry)) (now (out .exit)) r ⌝ }
 {
     let n = network.0;
     let a = text::put(out, b"map");

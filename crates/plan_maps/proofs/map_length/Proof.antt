@@ -5,7 +5,7 @@ use lib.ListN.{length, length-take, length-map}
 use native.Mathlib.Omega.{arith}
 use borrow.Author.Needs.{needs}
 use Rattle.text.specs.Name.{nameText}
-use Rattle.plan_listing.proofs.Lines.{map-line-length}
+use Rattle.plan_listing.proofs.Lines.{map-text-length}
 use Rattle.plan_maps.proofs.map_length.Statement.{statement}
 use Rattle.plan_maps.proofs.map_length.Tie as tie
 
@@ -28,7 +28,7 @@ add-result-2 c = omega (arith, c .before .name-length .ensures, c .digits .ensur
 returns : tie.Need-returns
 returns c =
     record {
-      exact = omega (arith, c .before .name-length .ensures, c .digits .ensures .exact, map-line-length (nameText (c .before .before .args .name)) (c .before .before .args .network .0));
+      exact = omega (arith, c .before .name-length .ensures, c .digits .ensures .exact, map-text-length (nameText (c .before .before .args .name)) (c .before .before .args .network .0));
       few = omega (arith, c .before .name-length .ensures, c .digits .ensures .few, short (c .before .before));
     }
 

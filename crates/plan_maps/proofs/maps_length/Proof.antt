@@ -9,7 +9,7 @@ use Rattle.text.specs.Name.{nameText}
 use Rattle.tables.specs.declared.MessageRow.{MessageRow}
 use Rattle.tables.specs.declared.Kind.the-variants.{Req}
 use Rattle.mapping.specs.Text.{mapTexts}
-use Rattle.plan_listing.specs.PlanText.{mapLine, firstNetworks}
+use Rattle.plan_listing.specs.PlanText.{mapText, firstNetworks}
 use Rattle.plan_listing.specs.Lengths.{TextLength}
 use Rattle.plan_listing.proofs.Lines.{mapsTo, maps-longer}
 use Rattle.plan_maps.proofs.maps_length.Statement.{statement}
