@@ -167,8 +167,21 @@ static void check_mapping_refusals(void)
     refused("both: the protocol", "", "", VN_HEADER, 0, 1);
 }
 
+/* The other libraries of the header stand in the same program. */
+static void check_side_by_side(void)
+{
+    uint8_t causes[4] = {0}, stalls[4] = {0}, network[1] = {UNTOUCHED};
+    int right = vn_check_protocol((const uint8_t *)bell, strlen(bell)) == VN_ACCEPTED;
+    right = right && vn_networks(vn_relations(1, causes, 4, stalls, 4, network, 1)) == 1;
+    right = right && network[0] == 0;
+    printf("%-24s%s\n", "the other calls", right ? "" : " WRONG");
+    if (!right)
+        wrong_lines++;
+}
+
 int main(void)
 {
+    check_side_by_side();
     check_listings();
     check_protocol_refusals();
     check_full();
