@@ -1,2 +1,3 @@
 pub mod PlanLaws
 pub mod Determined
+pub mod PlanLongest

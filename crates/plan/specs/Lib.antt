@@ -1,2 +1,3 @@
 pub mod Call
 pub mod Determined
+pub mod Longest
