@@ -2,3 +2,4 @@ pub mod Listings
 mod RefusedLaws
 pub mod Packing
 pub mod Determined
+pub mod RefusedLength

@@ -1,3 +1,4 @@
 pub mod PlanLaws
 pub mod Determined
 pub mod PlanLongest
+pub mod Printing

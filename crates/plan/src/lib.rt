@@ -3,6 +3,7 @@ ghost use Prim.Native.Nat.{_<_, _≤_};
 ghost use lib.ListN.{length};
 ghost use Rattle.tables.specs.Cells.{TablesOk};
 ghost use Rattle.plan.specs.Call.{Planned, Call, Packed};
+ghost use Rattle.plan.specs.Printed.{PlanPrinted};
 use answers::Answer;
 use tables::Tables;
 
@@ -31,4 +32,26 @@ pub fn plan(text: &[u8], out: &mut [u8]) -> Answer
     }
     let t = r.tables;
     plan_tables(t, out)
+}
+
+// The plan from a C host: the answer's numbers packed into one.
+#[no_mangle]
+pub extern "C" fn vn_plan_text(text: &[u8], out: &mut [u8]) -> u64
+    ensures { λ r. ⌜ Packed (now (text .entry)) (now (out .entry)) (now (out .exit)) r ⌝ }
+{
+    let a = plan(text, out);
+    answers::packed(a)
+}
+
+// What the planning program prints. There is room for the longest answer within the limits.
+pub fn print_plan(text: &[u8], out: &mut [u8]) -> usize
+    requires { ⌜ 2048 ≤ length (now out) ⌝ }
+    ensures { λ r. ⌜ PlanPrinted (now (text .entry)) (now (out .entry)) (now (out .exit)) r ⌝ }
+{
+    let a = plan(text, out);
+    if a.number == 0 {
+        return a.length;
+    }
+    let line = a.line as u32;
+    answers::put_refused(out, a.number, a.paper, line)
 }
