@@ -1,4 +1,5 @@
 -- `plan::plan_tables` meets its contract.
+use native.Mathlib.Omega.{arith}
 use borrow.Author.Needs.{needs}
 use Rattle.plan.proofs.PlanLaws.{planned-three, planned-two, three-asked, two-asked}
 use Rattle.plan.proofs.plan_tables.Statement.{statement}
@@ -8,7 +9,7 @@ plan-of-requires : tie.Need-plan-of-requires
 plan-of-requires c κs = search needs
 
 map-listing-requires : tie.Need-map-listing-requires
-map-listing-requires c κs = (c .before .before .before .before .before .before .before .pre .0 .messages, three-asked (c .before .before .before .before .before .before .before .args .t) (c .before .before .before .before .before .plan-of .result) (c .before .before .before .before .before .plan-of .ensures) (c .before .before .if1 .taken))
+map-listing-requires c κs = (omega (arith, c .before .before .before .before .before .before .before .pre .0 .messages), omega (arith, three-asked (c .before .before .before .before .before .before .before .args .t) (c .before .before .before .before .before .plan-of .result) (c .before .before .before .before .before .plan-of .ensures) (c .before .before .if1 .taken)))
 
 same-length : tie.Need-same-length
 same-length c = search needs
