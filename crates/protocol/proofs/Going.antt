@@ -1,121 +1,84 @@
--- A section's loop: what holds whenever its test is reached, and how each line carries it on.
-use Prim.Native.Nat.{ℕ, _+_, _<_}
-use mathlib.Core.Path.{_≡_, sym, ap, subst, _∙_}
-use mathlib.Core.Bool.{false}
+-- The loop over the lines: what holds whenever its test is reached, and how each line carries it on.
+use Prim.Native.Nat.{ℕ, _+_, _≤_, _<_}
+use mathlib.Core.Path.{_≡_, refl, sym, ap, subst, _∙_}
 use mathlib.Core.List.{List}
 use native.Mathlib.Omega.{arith}
 use lib.ListN.{length, drop}
-use lib.Dec.{leb}
-use borrow.Author.Tests.{lt-ltb, leb-false}
-use Rattle.text.specs.Parts.{place, split, lines}
+use Rattle.text.specs.Parts.{part, place, split, lines}
+use Rattle.papers.specs.declared.Refusal.{Refusal}
 use Rattle.papers.specs.Checks.{refusal}
-use Rattle.papers.proofs.Walk.{walk-next}
+use Rattle.papers.specs.Lined.{Lined}
+use Rattle.papers.proofs.Walk.{NextLine, walk-next}
 use Rattle.tables.specs.declared.Tables.{Tables}
-use Rattle.tables.specs.declared.MessageRow.{MessageRow}
-use Rattle.tables.specs.declared.EventRow.{EventRow}
-use Rattle.tables.specs.declared.StateRow.{StateRow}
-use Rattle.tables.specs.declared.Cell.{Cell}
-use Rattle.tables.specs.Tables.{withMessage, withEvent, withState, withCell}
-use Rattle.tables.specs.Cells.{CellOk}
-use Rattle.records.specs.Line.{Section, message, event, state, cell, messageOf, eventOf, stateOf, cellOf}
+use Rattle.tables.specs.Tables.{clearedTables}
 use Rattle.records.specs.Told.{Refuses}
-use Rattle.protocol.specs.Reading.{refused, storedIn, readLines}
-use Rattle.protocol.specs.Sections.{Kept, Placed, lineAt, sectionAt, Stage}
-use Rattle.protocol.proofs.Steps.{step-on, step-bad}
-use Rattle.protocol.proofs.Passed.{Passed, line-passed}
-use Rattle.protocol.proofs.Kept.{kept-message, kept-event, kept-state, kept-cell}
+use Rattle.records.proofs.Numbers.{tells-number}
+use Rattle.stored.specs.declared.AfterLine.{AfterLine}
+use Rattle.sections.specs.Storing.{Stores, stored}
+use Rattle.protocol.specs.Reading.{refused, accepted, unless, wholeRefusal, readLines}
+use Rattle.protocol.specs.Kept.{Kept, Placed}
+use Rattle.protocol.proofs.Steps.{lineAt, step-on, step-bad, step-end}
+use Rattle.protocol.proofs.Kept.{kept-cleared}
+use Rattle.protocol.proofs.KeptLine.{kept-line}
 
--- From line `from-line` at the place `from`, with t₀, the reading came to line `line` at the place `at`, with t, and is in section s.
-pub record Going (s : Section) (text : List ℕ) (from from-line : ℕ) (t₀ : Tables) (at line : ℕ) (t : Tables) : Type 0 where
-  pub on : readLines from-line (lines (drop from text)) t₀ ≡ readLines line (lines (drop at text)) t
+-- From the place `from` the reading came to line `line` at the place `at`, with t.
+pub record Going (text : List ℕ) (from at line : ℕ) (t : Tables) : Type 0 where
+  pub on : readLines 2 (lines (drop from text)) clearedTables ≡ readLines line (lines (drop at text)) t
   pub kept : Kept t
   pub placed : Placed text at line
-  pub stage : Stage s text at t
 
-pub below : (a b : ℕ) → leb a b ≡ false → b < a
-below a b e = omega (arith, leb-false a b e)
+pub going-start : (text : List ℕ) (from : ℕ) → Placed text from 2 → (t : Tables) → t ≡ clearedTables → Going text from from 2 t
+going-start text from p t e = subst (Going text from from 2) (sym e) (record { on = refl; kept = kept-cleared; placed = p })
 
-module _ (s : Section) (text : List ℕ) (from from-line : ℕ) (t₀ : Tables) (at line : ℕ) (t : Tables) (g : Going s text from from-line t₀ at line t) (h : at < length text) where
-  abbrev end : ℕ
-  end = place 10 text at (length text)
+-- what the loop's sums need
+pub record Room (text : List ℕ) (at line e : ℕ) : Type 0 where
+  pub from : at ≤ e
+  pub ends : e < length text
+  pub small : length text ≤ 49152
+  pub counted : line ≤ at + 2
 
-  -- the line is refused
-  pub going-bad : (n : ℕ) → Refuses t (lineAt text at) n → (n ≡ 0 → ⊥) → readLines from-line (lines (drop from text)) t₀ ≡ refused (refusal n line)
-  going-bad n f z = g .on ∙ step-bad text at (g .placed .lined) h t line n f z
+module _ (text : List ℕ) (from at line : ℕ) (t : Tables) (g : Going text from at line t) where
+  -- the end of the text
+  pub going-end : length text ≤ at → readLines 2 (lines (drop from text)) clearedTables ≡ unless (wholeRefusal t) (accepted t)
+  going-end h = g .on ∙ step-end text at line t h
 
-  -- the next line starts behind this one
-  next-placed : Placed text (end + 1) (line + 1)
-  next-placed =
-      let w = walk-next text at (g .placed .lined) h in
-      record { lined = w .more; small = g .placed .small; counted = omega (arith, w .from, g .placed .counted) }
+  module _ (h : at < length text) (e : ℕ) (q : e ≡ place 10 text at (length text)) where
+    next : NextLine text at (place 10 text at (length text))
+    next = walk-next text at (g .placed .lined) h
 
-  next-on : (n : ℕ) → Refuses t (lineAt text at) n → n ≡ 0 → (u : Tables) → storedIn (sectionAt text at) t (split 9 (lineAt text at)) ≡ u
-      → readLines from-line (lines (drop from text)) t₀ ≡ readLines (line + 1) (lines (drop (end + 1) text)) u
-  next-on n f z u e = g .on ∙ step-on text at (g .placed .lined) h t line n f z ∙ ap (readLines (line + 1) (lines (drop (end + 1) text))) e
+    pub room : Room text at line e
+    room = record { from = omega (arith, next .from); ends = omega (arith, next .ends); small = g .placed .small; counted = g .placed .counted }
 
-module _ (text : List ℕ) (from from-line : ℕ) (t₀ : Tables) (at line : ℕ) (t : Tables) (h : at < length text) where
-  abbrev next : ℕ
-  next = place 10 text at (length text) + 1
+    module _ (r : AfterLine) (m : Stores (part text at e) t r) where
+      -- what is told of the code's line is told of the line at this place
+      here : Stores (lineAt text at) t r
+      here = subst (λ (k : ℕ). Stores (part text at k) t r) q m
 
-  pub passed-as : (s : Section) (n : ℕ) → sectionAt text at ≡ s → Refuses t (lineAt text at) n → n ≡ 0 → Passed s t (split 9 (lineAt text at))
-  passed-as s n e r z = subst (λ (k : Section). Passed k t (split 9 (lineAt text at))) e (line-passed t (lineAt text at) n r z)
+      -- the line is refused
+      pub going-bad : (r .number ≡ 0 → ⊥) → readLines 2 (lines (drop from text)) clearedTables ≡ refused (refusal (r .number) line)
+      going-bad z = g .on ∙ step-bad text at (g .placed .lined) h t line (r .number) (here .told) z
 
-  stored-as : (s : Section) → sectionAt text at ≡ s → storedIn (sectionAt text at) t (split 9 (lineAt text at)) ≡ storedIn s t (split 9 (lineAt text at))
-  stored-as s e = ap (λ (k : Section). storedIn k t (split 9 (lineAt text at))) e
+      module _ (z : r .number ≡ 0) where
+        kept-on : Kept (stored t (split 9 (lineAt text at)))
+        kept-on = kept-line t 0 (split 9 (lineAt text at)) (g .kept) (ap (λ (x : Refusal). x .number) (here .told 0) ∙ tells-number (r .number) 0 ∙ z)
 
-  pub going-message : Going message text from from-line t₀ at line t → sectionAt text at ≡ message → (n : ℕ) → Refuses t (lineAt text at) n → n ≡ 0
-      → (row : MessageRow) → row ≡ messageOf (split 9 (lineAt text at)) → Going message text from from-line t₀ next (line + 1) (withMessage t row)
-  unfolding withMessage messageOf
-  going-message g e n r z row q =
-      let p = passed-as message n e r z in
-      record {
-        on = next-on message text from from-line t₀ at line t g h n r z (withMessage t row) (stored-as message e ∙ ap (withMessage t) (sym q));
-        kept = kept-message t (g .kept) row (below 32 (t .«message_count») (p .room));
-        placed = next-placed message text from from-line t₀ at line t g h;
-        stage = g .stage;
-      }
+        -- the next line starts behind this one
+        next-placed : Placed text (e + 1) (line + 1)
+        next-placed =
+            record {
+              lined = subst (λ (k : ℕ). Lined text (k + 1)) (sym q) (next .more);
+              small = g .placed .small;
+              counted = omega (arith, room .from, g .placed .counted);
+            }
 
-  pub going-event : Going event text from from-line t₀ at line t → sectionAt text at ≡ event → (n : ℕ) → Refuses t (lineAt text at) n → n ≡ 0
-      → (row : EventRow) → row ≡ eventOf (split 9 (lineAt text at)) → Going event text from from-line t₀ next (line + 1) (withEvent t row)
-  unfolding withEvent eventOf
-  going-event g e n r z row q =
-      let p = passed-as event n e r z in
-      record {
-        on = next-on event text from from-line t₀ at line t g h n r z (withEvent t row) (stored-as event e ∙ ap (withEvent t) (sym q));
-        kept = kept-event t (g .kept) row (below 8 (t .«event_count») (p .room));
-        placed = next-placed event text from from-line t₀ at line t g h;
-        stage = (g .stage .0, g .stage .1, λ k w. lt-ltb 0 (t .«event_count» + 1 + t .«state_count» + t .«cell_count») (omega arith));
-      }
-
-  pub going-state : Going state text from from-line t₀ at line t → sectionAt text at ≡ state → (n : ℕ) → Refuses t (lineAt text at) n → n ≡ 0
-      → (row : StateRow) → row ≡ stateOf (split 9 (lineAt text at)) → Going state text from from-line t₀ next (line + 1) (withState t row)
-  unfolding withState stateOf
-  going-state g e n r z row q =
-      let p = passed-as state n e r z in
-      record {
-        on = next-on state text from from-line t₀ at line t g h n r z (withState t row) (stored-as state e ∙ ap (withState t) (sym q));
-        kept = kept-state t (g .kept) row (below 64 (t .«state_count») (p .room));
-        placed = next-placed state text from from-line t₀ at line t g h;
-        stage = (
-          g .stage .0,
-          λ k w. lt-ltb 0 (t .«event_count» + (t .«state_count» + 1) + t .«cell_count») (omega arith),
-          λ k w. lt-ltb 0 (t .«state_count» + 1 + t .«cell_count») (omega arith),
-        );
-      }
-
-  pub going-cell : Going cell text from from-line t₀ at line t → sectionAt text at ≡ cell → (n : ℕ) → Refuses t (lineAt text at) n → n ≡ 0
-      → (c : Cell) → c ≡ cellOf t (split 9 (lineAt text at)) → CellOk (t .«message_count») (t .«event_count») (t .«state_count») c
-      → Going cell text from from-line t₀ next (line + 1) (withCell t c)
-  unfolding withCell
-  going-cell g e n r z c q ok =
-      let p = passed-as cell n e r z in
-      record {
-        on = next-on cell text from from-line t₀ at line t g h n r z (withCell t c) (stored-as cell e ∙ ap (withCell t) (sym q));
-        kept = kept-cell t (g .kept) c (below 512 (t .«cell_count») (p .room)) ok;
-        placed = next-placed cell text from from-line t₀ at line t g h;
-        stage = (
-          λ k w. lt-ltb 0 (t .«event_count» + t .«state_count» + (t .«cell_count» + 1)) (omega arith),
-          λ k w. lt-ltb 0 (t .«state_count» + (t .«cell_count» + 1)) (omega arith),
-          λ k w. lt-ltb 0 (t .«cell_count» + 1) (omega arith),
-        );
-      }
+        pub going-on : Going text from (e + 1) (line + 1) (r .tables)
+        going-on =
+            record {
+              on =
+                  g .on
+                  ∙ step-on text at (g .placed .lined) h t line (r .number) (here .told) z
+                  ∙ ap (λ (k : ℕ). readLines (line + 1) (lines (drop (k + 1) text)) (stored t (split 9 (lineAt text at)))) (sym q)
+                  ∙ ap (readLines (line + 1) (lines (drop (e + 1) text))) (sym (here .with-line z));
+              kept = subst Kept (sym (here .with-line z)) kept-on;
+              placed = next-placed;
+            }

@@ -11,7 +11,7 @@ use Rattle.tables.specs.declared.Tables.{Tables}
 use Rattle.tables.specs.Tables.{noCell, clearedTables, withMessage, withEvent, withState, withCell}
 use Rattle.tables.specs.Cells.{CellOk}
 use Rattle.tables.proofs.Stored.{cleared-past, past-message, past-event, past-state, past-cell, ok-cleared, ok-message, ok-event, ok-state, ok-cell}
-use Rattle.protocol.specs.Sections.{Kept}
+use Rattle.protocol.specs.Kept.{Kept}
 
 pub kept-cleared : Kept clearedTables
 unfolding clearedTables

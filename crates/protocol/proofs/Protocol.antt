@@ -1,4 +1,4 @@
--- The whole reading: the opening, then section after section, to the end of the text.
+-- The whole reading: the opening, then the lines behind it.
 use Prim.Native.Nat.{ℕ, _+_}
 use mathlib.Core.Path.{_≡_, refl, sym, ap, subst, _∙_}
 use mathlib.Core.Bool.{Bool}
@@ -12,22 +12,10 @@ use Rattle.papers.specs.declared.Refusal.{Refusal}
 use Rattle.papers.specs.Checks.{refusal}
 use Rattle.papers.specs.Opening.{openingOf}
 use Rattle.papers.proofs.OpeningLaws.{opened}
-use Rattle.tables.specs.declared.Tables.{Tables}
 use Rattle.tables.specs.Tables.{clearedTables}
-use Rattle.records.specs.Line.{Section, message, unknown}
 use Rattle.protocol.specs.declared.Reading.{Reading}
-use Rattle.protocol.specs.declared.Progress.{Progress}
-use Rattle.protocol.specs.Reading.{refused, accepted, unless, pickReading, wholeRefusal, readLines, readProtocol}
-use Rattle.protocol.specs.Sections.{Kept, Placed, Stage, Went}
-use Rattle.protocol.proofs.Steps.{step-end}
-use Rattle.protocol.proofs.Kept.{kept-cleared}
-
--- The reading came to line `line` at the place `at`, with t, and is in section s.
-pub record Came (s : Section) (text : List ℕ) (at line : ℕ) (t : Tables) : Type 0 where
-  pub on : readProtocol text ≡ readLines line (lines (drop at text)) t
-  pub kept : Kept t
-  pub placed : Placed text at line
-  pub stage : Stage s text at t
+use Rattle.protocol.specs.Reading.{refused, unless, pickReading, readLines, readProtocol}
+use Rattle.protocol.specs.Kept.{Placed}
 
 -- ---- what is answered unless something is refused
 
@@ -43,32 +31,21 @@ module _ (text : List ℕ) where
 
   -- ---- the opening
 
+  -- The lines behind the header start at the place `at`.
+  pub record Begun (at : ℕ) : Type 0 where
+    pub on : readProtocol text ≡ readLines 2 (lines (drop at text)) clearedTables
+    pub placed : Placed text at 2
+
   pub not-opened : (r : Refusal) → r ≡ openingOf protocolHeader text → (r .number ≡ 0 → ⊥) → readProtocol text ≡ refused (refusal (r .number) (r .line))
   unfolding readProtocol
   not-opened r e g = ap (λ (x : Refusal). unless x body) (sym e) ∙ unless-refused r body g
 
-  pub begun : (r : Refusal) → r ≡ openingOf protocolHeader text → r .number ≡ 0 → (e : ℕ) → e ≡ place 10 text 0 (length text) → Came message text (e + 1) 2 clearedTables
-  unfolding readProtocol clearedTables
+  pub begun : (r : Refusal) → r ≡ openingOf protocolHeader text → r .number ≡ 0 → (e : ℕ) → e ≡ place 10 text 0 (length text) → Begun (e + 1)
+  unfolding readProtocol
   begun r q z e w =
       let o = opened protocolHeader text (ap (λ (x : Refusal). x .number) (sym q) ∙ z) in
-      subst (λ (k : ℕ). Came message text (k + 1) 2 clearedTables) (sym w)
+      subst (λ (k : ℕ). Begun (k + 1)) (sym w)
       (record {
         on = ap (λ (x : Refusal). unless x body) (sym q) ∙ unless-passed r body z ∙ ap (λ (ls : List (List ℕ)). readLines 2 ls clearedTables) (sym (o .rest));
-        kept = kept-cleared;
         placed = record { lined = o .more; small = o .small; counted = omega arith };
-        stage = (refl, refl, refl);
       })
-
-  -- ---- a section
-
-  module _ (s next : Section) (at line : ℕ) (t : Tables) (c : Came s text at line t) (p : Progress) (w : Went text at line t next p) where
-    pub came-on : p .number ≡ 0 → Came next text (p .at) (p .line) (p .tables)
-    came-on z = record { on = c .on ∙ w .on z; kept = w .kept z; placed = w .placed z; stage = w .stage z }
-
-    pub came-bad : (p .number ≡ 0 → ⊥) → readProtocol text ≡ refused (refusal (p .number) (p .line))
-    came-bad g = c .on ∙ w .bad g
-
-  -- ---- the end
-
-  pub came-end : (at line : ℕ) (t : Tables) → Came unknown text at line t → readProtocol text ≡ unless (wholeRefusal t) (accepted t)
-  came-end at line t c = c .on ∙ step-end text at line t (c .stage)

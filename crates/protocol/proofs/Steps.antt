@@ -5,16 +5,20 @@ use mathlib.Core.List.{List}
 use native.Mathlib.Numerals.{add-one}
 use lib.ListN.{length, drop}
 use borrow.Author.Tests.{ne-eqb}
-use Rattle.text.specs.Parts.{place, split, lines}
+use Rattle.text.specs.Parts.{part, place, split, lines}
 use Rattle.papers.specs.Checks.{refusal}
 use Rattle.papers.specs.Lined.{Lined}
 use Rattle.papers.proofs.Walk.{walk-next, walk-end}
 use Rattle.tables.specs.declared.Tables.{Tables}
 use Rattle.records.specs.Told.{tells, Refuses}
 use Rattle.records.specs.Checks.{lineRefusal}
+use Rattle.sections.specs.Storing.{stored}
 use Rattle.protocol.specs.declared.Reading.{Reading}
-use Rattle.protocol.specs.Sections.{lineAt}
-use Rattle.protocol.specs.Reading.{refused, accepted, unless, stored, wholeRefusal, readLines}
+use Rattle.protocol.specs.Reading.{refused, accepted, unless, wholeRefusal, readLines}
+
+-- The line that starts at a place.
+abbrev pub lineAt : List ℕ → ℕ → List ℕ
+lineAt text at = part text at (place 10 text at (length text))
 
 -- what is told by a number
 unless-none : (n k : ℕ) (a : Reading) → n ≡ 0 → unless (tells n k) a ≡ a

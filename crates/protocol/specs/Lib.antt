@@ -1,5 +1,2 @@
 pub mod Reading
-pub mod Sections
-pub mod Bell
-pub mod Promises
-pub mod Written
+pub mod Kept

@@ -1,5 +1,6 @@
 -- Reading a protocol text: lines one after the other, then what is asked of the whole.
 use Prim.Native.Nat.{ℕ, suc, _+_, _*_, _%_}
+use mathlib.Core.Path.{_≡_}
 use mathlib.Core.Bool.{Bool, true, false, decide}
 use mathlib.Core.List.{List, [], _∷_}
 use lib.ListN.{drop}
@@ -12,11 +13,11 @@ use Rattle.papers.specs.declared.Refusal.{Refusal}
 use Rattle.papers.specs.Checks.{Check, check, firstOf}
 use Rattle.papers.specs.Opening.{openingOf}
 use Rattle.tables.specs.declared.Tables.{Tables}
-use Rattle.tables.specs.Tables.{clearedTables, withMessage, withEvent, withState, withCell}
+use Rattle.tables.specs.Tables.{clearedTables}
 use Rattle.tables.specs.Cells.{cellsOf}
-use Rattle.protocol.specs.declared.Reading.{Reading}
-use Rattle.records.specs.Line.{Line, Section, message, event, state, cell, unknown, sectionOf, messageOf, eventOf, stateOf, cellOf}
 use Rattle.records.specs.Checks.{lineRefusal}
+use Rattle.sections.specs.Storing.{stored}
+use Rattle.protocol.specs.declared.Reading.{Reading}
 
 -- "A refusal returns number, paper, line": and tables as they were cleared.
 abbrev pub refused : Refusal → Reading
@@ -32,18 +33,6 @@ pickReading false a b = b
 -- The answer, where nothing is refused.
 abbrev pub unless : Refusal → Reading → Reading
 unless r a = pickReading (eqb (r .number) 0) a (refused r)
-
--- ---- a line is stored
-
-abbrev pub storedIn : Section → Tables → Line → Tables
-storedIn message t f = withMessage t (messageOf f)
-storedIn event t f = withEvent t (eventOf f)
-storedIn state t f = withState t (stateOf f)
-storedIn cell t f = withCell t (cellOf t f)
-storedIn unknown t f = t
-
-abbrev pub stored : Tables → Line → Tables
-stored t f = storedIn (sectionOf f) t f
 
 -- ---- the whole text: 12 and 13
 
@@ -82,6 +71,10 @@ unfoldable pub readProtocol : List ℕ → Reading
 readProtocol text =
     let body = readLines 2 (drop 1 (lines text)) clearedTables in
     unless (openingOf protocolHeader text) body
+
+-- The contract of `read_protocol` leaves one answer.
+abbrev pub ReadingDetermined : Type 0
+ReadingDetermined = (text : List ℕ) (r s : Reading) → r ≡ readProtocol text → s ≡ readProtocol text → r ≡ s
 
 -- ---- from a C host
 

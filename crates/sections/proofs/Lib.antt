@@ -1,0 +1,3 @@
+pub mod Passed
+pub mod Storing
+pub mod Determined

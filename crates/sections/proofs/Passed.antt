@@ -1,0 +1,67 @@
+-- A line that is not refused passes each of the eight checks.
+use Prim.Native.Nat.{ℕ, _<_}
+use mathlib.Core.Path.{_≡_, refl, sym, ap, subst, _∙_}
+use mathlib.Core.Bool.{Bool, true, false, not}
+use mathlib.Core.List.{List}
+use native.Mathlib.Omega.{arith}
+use lib.Dec.{leb}
+use borrow.Author.Tests.{leb-false}
+use Rattle.papers.specs.declared.Refusal.{Refusal}
+use Rattle.papers.specs.Checks.{firstOf}
+use Rattle.papers.proofs.Checks.{passed-by}
+use Rattle.tables.specs.declared.Tables.{Tables}
+use Rattle.text.specs.Parts.{split}
+use Rattle.records.specs.Line.{Line, Section, sectionOf}
+use Rattle.records.specs.Checks.{shaped, laterRead, badName, notKnown, twice, full, stallInStable, conflict, sectionChecks, lineRefusal}
+use Rattle.records.specs.Told.{tells, Refuses}
+
+pub record Passed (s : Section) (t : Tables) (f : Line) : Type 0 where
+  pub shape : shaped s f ≡ true
+  pub order : laterRead s t ≡ false
+  pub name : badName s f ≡ false
+  pub known : notKnown s t f ≡ false
+  pub once : twice s t f ≡ false
+  pub room : full s t ≡ false
+  pub stable : stallInStable s t f ≡ false
+  pub agrees : conflict s t f ≡ false
+
+not-not : (b : Bool) → not b ≡ false → b ≡ true
+not-not true e = refl
+not-not false e = sym e
+
+not-zero : (n : ℕ) → 0 < n → n ≡ 0 → ⊥
+not-zero n h e = omega arith
+
+pub passed : (s : Section) (t : Tables) (k : ℕ) (f : Line) → firstOf (sectionChecks s t k f) .number ≡ 0 → Passed s t f
+passed s t k f e =
+    let p4 = passed-by _ _ (not-zero 4 (omega arith)) e in
+    let p5 = passed-by _ _ (not-zero 5 (omega arith)) (p4 .1) in
+    let p6 = passed-by _ _ (not-zero 6 (omega arith)) (p5 .1) in
+    let p7 = passed-by _ _ (not-zero 7 (omega arith)) (p6 .1) in
+    let p8 = passed-by _ _ (not-zero 8 (omega arith)) (p7 .1) in
+    let p9 = passed-by _ _ (not-zero 9 (omega arith)) (p8 .1) in
+    let p10 = passed-by _ _ (not-zero 10 (omega arith)) (p9 .1) in
+    let p11 = passed-by _ _ (not-zero 11 (omega arith)) (p10 .1) in
+    record {
+      shape = not-not (shaped s f) (p4 .0);
+      order = p5 .0;
+      name = p6 .0;
+      known = p7 .0;
+      once = p8 .0;
+      room = p9 .0;
+      stable = p10 .0;
+      agrees = p11 .0;
+    }
+
+pub line-passed : (t : Tables) (line : List ℕ) (n : ℕ) → Refuses t line n → n ≡ 0 → Passed (sectionOf (split 9 line)) t (split 9 line)
+unfolding lineRefusal
+line-passed t line n f e = passed (sectionOf (split 9 line)) t 0 (split 9 line) (ap (λ (r : Refusal). r .number) (f 0) ∙ zero n e)
+  where
+    zero : (n : ℕ) → n ≡ 0 → tells n 0 .number ≡ 0
+    zero n e = rw e refl
+
+pub passed-as : (t : Tables) (line : List ℕ) (s : Section) (n : ℕ) → sectionOf (split 9 line) ≡ s → Refuses t line n → n ≡ 0 → Passed s t (split 9 line)
+passed-as t line s n e r z = subst (λ (k : Section). Passed k t (split 9 line)) e (line-passed t line n r z)
+
+pub below : (a b : ℕ) → leb a b ≡ false → b < a
+below a b e = omega (arith, leb-false a b e)
