@@ -12,7 +12,7 @@ use Rattle.tables.specs.declared.Tables.{Tables}
 use Rattle.records.specs.Line.{Line, says, Section, message, event, state, cell, unknown, sectionOf}
 use Rattle.records.specs.Checks.{shaped, laterRead}
 use Rattle.records.specs.Told.{Refuses}
-use Rattle.records.specs.Found.{misplacedNumber, Misplaced}
+use Rattle.shapes.specs.Shapes.{misplacedNumber, Misplaced}
 use Rattle.stored.specs.declared.AfterLine.{AfterLine}
 use Rattle.stored.specs.After.{afterLine}
 use Rattle.sections.specs.Storing.{Stores}

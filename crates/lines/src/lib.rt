@@ -43,5 +43,5 @@ pub fn line_after(line: &[u8], t: Tables) -> AfterLine
     if in_turn(line, f, b"message", events) {
         return sections::message_after(line, f, t);
     }
-    stored::refused_line(records::misplaced(line, f), t)
+    stored::refused_line(shapes::misplaced(line, f), t)
 }

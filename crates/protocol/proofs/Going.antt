@@ -11,7 +11,6 @@ use Rattle.papers.specs.Lined.{Lined}
 use Rattle.papers.proofs.Walk.{NextLine, walk-next}
 use Rattle.tables.specs.declared.Tables.{Tables}
 use Rattle.tables.specs.Tables.{clearedTables}
-use Rattle.records.specs.Told.{Refuses}
 use Rattle.records.proofs.Numbers.{tells-number}
 use Rattle.stored.specs.declared.AfterLine.{AfterLine}
 use Rattle.sections.specs.Storing.{Stores, stored}

@@ -9,12 +9,13 @@ use Rattle.text.specs.Parts.{split}
 use Rattle.text.specs.Words.{messageWord, eventWord, stateWord, cellWord}
 use Rattle.tables.specs.declared.Tables.{Tables}
 use Rattle.tables.specs.Tables.{withMessage, withEvent, withState, withCell}
-use Rattle.records.specs.declared.MessageLine.{MessageLine}
-use Rattle.records.specs.declared.EventLine.{EventLine}
-use Rattle.records.specs.declared.StateLine.{StateLine}
-use Rattle.records.specs.Line.{says, Section, message, event, state, cell, sectionOf, messageOf, eventOf, stateOf, cellOf}
+use Rattle.declarations.specs.declared.MessageLine.{MessageLine}
+use Rattle.declarations.specs.declared.EventLine.{EventLine}
+use Rattle.declarations.specs.declared.StateLine.{StateLine}
+use Rattle.records.specs.Line.{says, Section, message, event, state, cell, sectionOf}
 use Rattle.records.specs.Checks.{laterRead}
-use Rattle.records.specs.Told.{Refuses, MessageTold, EventTold, StateTold}
+use Rattle.records.specs.Told.{Refuses}
+use Rattle.declarations.specs.Told.{MessageTold, EventTold, StateTold}
 use Rattle.records.proofs.Sections.{a-message, an-event, a-state, a-cell}
 use Rattle.cells.specs.declared.CellLine.{CellLine}
 use Rattle.cells.specs.Told.{Declared, CellTold}

@@ -20,7 +20,7 @@ pub fn message_after(line: &[u8], f: Fields, t: Tables) -> AfterLine
     ensures { λ r. ⌜ Stores (now (line .entry)) t r ⌝ }
 {
     let rows = t.messages;
-    let r = records::message_line(line, f, rows, t.message_count);
+    let r = declarations::message_line(line, f, rows, t.message_count);
     if r.number != 0 {
         return stored::refused_line(r.number, t);
     }
@@ -35,7 +35,7 @@ pub fn event_after(line: &[u8], f: Fields, t: Tables) -> AfterLine
 {
     let messages = t.messages;
     let rows = t.events;
-    let r = records::event_line(line, f, messages, t.message_count, rows, t.event_count);
+    let r = declarations::event_line(line, f, messages, t.message_count, rows, t.event_count);
     if r.number != 0 {
         return stored::refused_line(r.number, t);
     }
@@ -49,7 +49,7 @@ pub fn state_after(line: &[u8], f: Fields, t: Tables) -> AfterLine
     ensures { λ r. ⌜ Stores (now (line .entry)) t r ⌝ }
 {
     let rows = t.states;
-    let r = records::state_line(line, f, rows, t.state_count);
+    let r = declarations::state_line(line, f, rows, t.state_count);
     if r.number != 0 {
         return stored::refused_line(r.number, t);
     }
