@@ -13,7 +13,7 @@ use Rattle.text.specs.Parts.{firstIndex}
 use Rattle.text.specs.Written.{decimal}
 use Rattle.text.proofs.Parts.{same-true, true-same, same-false, first-le, first-passes, first-at, first-none}
 use Rattle.text.proofs.Written.{decimal-small, decimal-step}
-use Rattle.mapping.specs.Reading.{writtenAs, networkOf}
+use Rattle.networks.specs.Networks.{writtenAs, networkOf}
 
 module _ {A : Type 0} where
   pub getD-upTo : (n i : ℕ) (f : ℕ → A) (d : A) → i < n → getD (upTo n f) i d ≡ f i

@@ -1,9 +1,9 @@
 use mathlib.Core.Path.{sym}
 use native.Mathlib.Omega.{arith}
-use Rattle.mapping.proofs.NetworkLaws.{two-found, two-none}
+use Rattle.networks.proofs.NetworkLaws.{two-found, two-none}
 use borrow.Author.Needs.{needs}
-use Rattle.mapping.proofs.two_digits.Statement.{statement}
-use Rattle.mapping.proofs.two_digits.Tie as tie
+use Rattle.networks.proofs.two_digits.Statement.{statement}
+use Rattle.networks.proofs.two_digits.Tie as tie
 
 returns : tie.Need-returns
 returns c = sym (two-none (c .before .args .a) (c .before .args .b) (λ h k l m. omega arith))

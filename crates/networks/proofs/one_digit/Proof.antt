@@ -1,8 +1,8 @@
 use mathlib.Core.Path.{sym}
 use native.Mathlib.Omega.{arith}
-use Rattle.mapping.proofs.NetworkLaws.{one-found, one-none}
-use Rattle.mapping.proofs.one_digit.Statement.{statement}
-use Rattle.mapping.proofs.one_digit.Tie as tie
+use Rattle.networks.proofs.NetworkLaws.{one-found, one-none}
+use Rattle.networks.proofs.one_digit.Statement.{statement}
+use Rattle.networks.proofs.one_digit.Tie as tie
 
 returns : tie.Need-returns
 returns c = sym (one-none (c .before .args .a) (λ h k. omega arith))

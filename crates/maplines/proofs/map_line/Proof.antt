@@ -3,11 +3,11 @@ use native.Mathlib.Omega.{arith}
 use borrow.Author.Tests.{not-true, not-false}
 use Rattle.text.specs.Parts.{sameText, split}
 use Rattle.text.specs.Name.{nameText}
-use Rattle.mapping.specs.Reading.{networkOf}
-use Rattle.mapping.proofs.LineLaws.{map-field, gives-unmatched, gives-no-network, gives-network}
+use Rattle.networks.specs.Networks.{networkOf}
+use Rattle.maplines.proofs.LineLaws.{map-field, gives-unmatched, gives-no-network, gives-network}
 use borrow.Author.Needs.{needs}
-use Rattle.mapping.proofs.map_line.Statement.{statement}
-use Rattle.mapping.proofs.map_line.Tie as tie
+use Rattle.maplines.proofs.map_line.Statement.{statement}
+use Rattle.maplines.proofs.map_line.Tie as tie
 
 fields-of-requires : tie.Need-fields-of-requires
 fields-of-requires c κs = search needs

@@ -18,11 +18,13 @@ use Rattle.papers.specs.Checks.{check, refusal, firstOf}
 use Rattle.papers.specs.Opening.{openingChecks, openingOf}
 use Rattle.papers.proofs.Checks.{ToldBy, row, only-given, passed-by}
 use Rattle.tables.specs.declared.MessageRow.{MessageRow}
 use Rattle.mapping.specs.declared.Mapped.{Mapped}
-use Rattle.mapping.specs.Reading.{field, networkOf, shaped, matches, isNetwork, lineChecks, lineRefusal, networkNo, accepted, refused, readMaps, readMapping}
-use Rattle.mapping.specs.Line.{restChecks}
-use Rattle.mapping.specs.Why.{Passed, BadLine, EndsEarly, Accepted}
+use Rattle.maplines.specs.Line.{field, shaped, matches, isNetwork, lineChecks, lineRefusal}
+use Rattle.networks.specs.Networks.{networkOf}
+use Rattle.mapping.specs.Reading.{networkNo, accepted, refused, readMaps, readMapping}
+use Rattle.maplines.specs.Line.{restChecks}
+use Rattle.mapping_laws.specs.Why.{Passed, BadLine, EndsEarly, Accepted}
 use Rattle.mapping.proofs.ReadLaws.{maps-more, maps-stop, reading-refused, reading-opened}
 
 -- ---- a line that gives no refusal
 

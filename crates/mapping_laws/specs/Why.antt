@@ -6,8 +6,9 @@ use lib.ListN.{length, getD, drop}
 use Rattle.text.specs.Parts.{split}
 use Rattle.papers.specs.Checks.{refusal}
 use Rattle.tables.specs.declared.MessageRow.{MessageRow}
 use Rattle.mapping.specs.declared.Mapped.{Mapped}
-use Rattle.mapping.specs.Reading.{lineRefusal, accepted, refused}
+use Rattle.maplines.specs.Line.{lineRefusal}
+use Rattle.mapping.specs.Reading.{accepted, refused}
 
 -- The lines before place j give no refusal. The first of them is line k.
 pub record Passed (next : List MessageRow) (k : ℕ) (ls : List (List ℕ)) (j : ℕ) : Type 0 where

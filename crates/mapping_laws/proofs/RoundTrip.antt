@@ -16,13 +16,15 @@ use Rattle.papers.specs.declared.Refusal.{Refusal}
 use Rattle.papers.proofs.OpeningLaws.{opens}
 use Rattle.papers.proofs.Joined.{many-cons, many-append, split-none, split-join, lines-join, Ends, ends-join, name-lacks}
 use Rattle.tables.specs.declared.MessageRow.{MessageRow}
-use Rattle.mapping.specs.declared.MapLine.{MapLine}
-use Rattle.mapping.specs.Reading.{field, networkOf, lineRefusal, accepted, readMaps, readMapping}
-use Rattle.mapping.specs.Line.{mapLine}
+use Rattle.maplines.specs.declared.MapLine.{MapLine}
+use Rattle.maplines.specs.Line.{field, lineRefusal}
+use Rattle.networks.specs.Networks.{networkOf}
+use Rattle.mapping.specs.Reading.{accepted, readMaps, readMapping}
+use Rattle.maplines.specs.Line.{mapLine}
 use Rattle.mapping.specs.Text.{mapFields, mapTexts, mappingText, Writable}
-use Rattle.mapping.proofs.NetworkLaws.{low-or-high, one, two, network-found}
-use Rattle.mapping.proofs.LineLaws.{refusalAt, gives-network, line-gives}
+use Rattle.networks.proofs.NetworkLaws.{low-or-high, one, two, network-found}
+use Rattle.maplines.proofs.LineLaws.{refusalAt, gives-network, line-gives}
 use Rattle.mapping.proofs.ReadLaws.{maps-more, reading-opened}
 
 -- ---- a network in decimal
 

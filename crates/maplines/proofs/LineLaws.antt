@@ -18,9 +18,10 @@ use Rattle.papers.specs.Checks.{check, refusal, none, pickRefusal, firstOf}
 use Rattle.papers.proofs.Checks.{first-given, first-passed}
 use Rattle.papers.proofs.WholeLine.{whole-count, count-whole, told-field}
 use Rattle.tables.specs.declared.MessageRow.{MessageRow}
-use Rattle.mapping.specs.declared.MapLine.{MapLine}
-use Rattle.mapping.specs.Reading.{Line, field, networkOf, shaped, matches, isNetwork, lineRefusal}
-use Rattle.mapping.specs.Line.{restChecks, mapLine}
+use Rattle.maplines.specs.declared.MapLine.{MapLine}
+use Rattle.maplines.specs.Line.{Line, field, shaped, matches, isNetwork, lineRefusal}
+use Rattle.networks.specs.Networks.{networkOf}
+use Rattle.maplines.specs.Line.{restChecks, mapLine}
 
 -- ---- the shape
 

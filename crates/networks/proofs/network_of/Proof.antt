@@ -1,10 +1,10 @@
 use mathlib.Core.Path.{sym, ap, _∙_}
 use native.Mathlib.Omega.{arith}
-use Rattle.mapping.specs.Reading.{networkOf}
-use Rattle.mapping.proofs.NetworkLaws.{of-one, of-two, length-none}
+use Rattle.networks.specs.Networks.{networkOf}
+use Rattle.networks.proofs.NetworkLaws.{of-one, of-two, length-none}
 use borrow.Author.Needs.{needs}
-use Rattle.mapping.proofs.network_of.Statement.{statement}
-use Rattle.mapping.proofs.network_of.Tie as tie
+use Rattle.networks.proofs.network_of.Statement.{statement}
+use Rattle.networks.proofs.network_of.Tie as tie
 
 shared-slice-read-one-digit : tie.Need-shared-slice-read-one-digit
 shared-slice-read-one-digit c = search needs
