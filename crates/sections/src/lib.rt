@@ -20,11 +20,11 @@ pub fn message_after(line: &[u8], f: Fields, t: Tables) -> AfterLine
     ensures { λ r. ⌜ Stores (now (line .entry)) t r ⌝ }
 {
     let rows = t.messages;
-    let r = declarations::message_line(line, f, rows, t.message_count);
-    if r.number != 0 {
-        return stored::refused_line(r.number, t);
+    let m = declarations::message_line(line, f, rows, t.message_count);
+    if m.number != 0 {
+        return stored::refused_line(m.number, t);
     }
-    let row = r.row;
+    let row = m.row;
     stored::with_message(t, row)
 }
 
@@ -35,11 +35,11 @@ pub fn event_after(line: &[u8], f: Fields, t: Tables) -> AfterLine
 {
     let messages = t.messages;
     let rows = t.events;
-    let r = declarations::event_line(line, f, messages, t.message_count, rows, t.event_count);
-    if r.number != 0 {
-        return stored::refused_line(r.number, t);
+    let v = declarations::event_line(line, f, messages, t.message_count, rows, t.event_count);
+    if v.number != 0 {
+        return stored::refused_line(v.number, t);
     }
-    let row = r.row;
+    let row = v.row;
     stored::with_event(t, row)
 }
 
@@ -49,11 +49,11 @@ pub fn state_after(line: &[u8], f: Fields, t: Tables) -> AfterLine
     ensures { λ r. ⌜ Stores (now (line .entry)) t r ⌝ }
 {
     let rows = t.states;
-    let r = declarations::state_line(line, f, rows, t.state_count);
-    if r.number != 0 {
-        return stored::refused_line(r.number, t);
+    let s = declarations::state_line(line, f, rows, t.state_count);
+    if s.number != 0 {
+        return stored::refused_line(s.number, t);
     }
-    let row = r.row;
+    let row = s.row;
     stored::with_state(t, row)
 }
 
@@ -85,10 +85,10 @@ pub fn cell_after(line: &[u8], f: Fields, t: Tables) -> AfterLine
     requires { ⌜ FieldsAre (now line) f × (says (split 9 (now line)) 0 cellWord ≡ true) × TablesOk t ⌝ }
     ensures { λ r. ⌜ Stores (now (line .entry)) t r ⌝ }
 {
-    let r = cell_of(line, f, t);
-    if r.number != 0 {
-        return stored::refused_line(r.number, t);
+    let c = cell_of(line, f, t);
+    if c.number != 0 {
+        return stored::refused_line(c.number, t);
     }
-    let row = r.cell;
+    let row = c.cell;
     stored::with_cell(t, row)
 }
