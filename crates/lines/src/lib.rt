@@ -1,47 +1,29 @@
-// One line of a protocol text, after what was read before it: whichever section it is of.
-ghost use mathlib.Core.Path.{_≡_};
-ghost use mathlib.Core.Bool.{not, _&&_};
-ghost use lib.Dec.{ltb};
-ghost use Rattle.text.specs.Parts.{split};
-ghost use Rattle.tables.specs.Cells.{TablesOk};
-ghost use Rattle.records.specs.Line.{says};
-ghost use Rattle.records.specs.Told.{FieldsAre};
-ghost use Rattle.sections.specs.Storing.{Stores};
-use stored::AfterLine;
-use tables::Tables;
+// The next line of a protocol text.
+ghost use Prim.Native.Nat.{_<_};
+ghost use lib.ListN.{length};
+ghost use Rattle.papers.specs.Lined.{Lined};
+ghost use Rattle.lines.specs.Next.{Next};
 use text::Fields;
 
-// Whether the line is a record of this word, and not behind a later section, of which so many rows were read.
-fn in_turn(line: &[u8], f: Fields, word: &[u8], later: usize) -> bool
-    requires { ⌜ FieldsAre (now line) f ⌝ }
-    ensures { λ r. ⌜ r ≡ (not (ltb 0 later) && says (split 9 (now (line .entry))) 0 (now (word .entry))) ⌝ }
-{
-    if 0 < later {
-        return false;
-    }
-    records::is_record(line, f, word)
+// Where the line ends, its fields, and whether its first field is the word that was asked for.
+pub struct NextLine {
+    pub end: usize,
+    pub fields: Fields,
+    pub is: bool,
 }
 
-// A line, after t was read from the lines before it.
-pub fn line_after(line: &[u8], t: Tables) -> AfterLine
-    requires { ⌜ TablesOk t ⌝ }
-    ensures { λ r. ⌜ Stores (now (line .entry)) t r ⌝ }
+// The line that starts at a place.
+pub fn next_line(text: &[u8], at: usize, word: &[u8]) -> NextLine
+    requires { ⌜ Lined (now text) at × (at < length (now text)) ⌝ }
+    ensures { λ r. ⌜ Next (now (text .entry)) at (now (word .entry)) r ⌝ }
 {
-    let f = text::fields_of(line, 0, line.len());
-    if records::is_record(line, f, b"cell") {
-        return sections::cell_after(line, f, t);
+    let e = text::find(text, 10, at, text.len());
+    let part = &text[at..e];
+    let f = text::fields_of(part, 0, part.len());
+    let is = records::is_record(part, f, word);
+    NextLine {
+        end: e,
+        fields: f,
+        is: is,
     }
-    let cells = t.cell_count;
-    if in_turn(line, f, b"state", cells) {
-        return sections::state_after(line, f, t);
-    }
-    let states = t.state_count + cells;
-    if in_turn(line, f, b"event", states) {
-        return sections::event_after(line, f, t);
-    }
-    let events = t.event_count + t.state_count + cells;
-    if in_turn(line, f, b"message", events) {
-        return sections::message_after(line, f, t);
-    }
-    stored::refused_line(shapes::misplaced(line, f), t)
 }

@@ -1,7 +1,2 @@
-pub mod Steps
-pub mod Kept
-pub mod KeptLine
-pub mod Going
-pub mod Whole
 pub mod Protocol
 pub mod Determined

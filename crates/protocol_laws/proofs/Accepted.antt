@@ -13,10 +13,10 @@ use Rattle.tables.specs.declared.Tables.{Tables}
 use Rattle.tables.specs.Cells.{cellsOf}
 use Rattle.tables.specs.Relations.{cellAt}
 use Rattle.tables.proofs.InRange.{relations-accepted}
-use Rattle.protocol.specs.Reading.{noEntryAt, cellLine, wholeRefusal}
-use Rattle.protocol.specs.Kept.{Kept}
+use Rattle.whole.specs.Whole.{noEntryAt, cellLine, wholeRefusal}
+use Rattle.whole.specs.Kept.{Kept}
 use Rattle.protocol_laws.specs.Promises.{atEnd, AcceptedReading, AcceptedKept}
-use Rattle.protocol.proofs.Whole.{first-no-entry}
+use Rattle.whole.proofs.Whole.{first-no-entry}
 use Rattle.protocol_laws.proofs.Why.{all-read, kept-end}
 
 -- what is known of tables that neither 12 nor 13 refuses

@@ -14,7 +14,9 @@ use Rattle.tables.specs.Clash.{anyClash}
 use Rattle.names.specs.Names.{messageAt, eventAt, stateAt}
 use Rattle.records.specs.Line.{sectionOf, messageOf, eventOf, stateOf, cellOf, sentOf as sentOfLine}
 use Rattle.records.specs.Checks.{allMessages, inStable, lineRefusal}
-use Rattle.protocol.specs.Reading.{noEntryAt, wholeRefusal, readLines, readProtocol}
+use Rattle.whole.specs.Whole.{noEntryAt, wholeRefusal}
+use Rattle.sections.specs.Lines.{readLines}
+use Rattle.protocol.specs.Reading.{readProtocol}
 use Rattle.protocol_laws.specs.Bell.{bellText}
 
 pub bell-accepted : readProtocol bellText .number ≡ 0

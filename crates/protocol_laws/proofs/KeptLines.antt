@@ -8,9 +8,9 @@ use lib.ListN.{length, getD}
 use Rattle.text.specs.Parts.{split}
 use Rattle.tables.specs.declared.Tables.{Tables}
 use Rattle.records.specs.Checks.{lineRefusal}
-use Rattle.sections.specs.Storing.{stored}
-use Rattle.protocol.specs.Kept.{Kept}
-use Rattle.protocol.proofs.KeptLine.{kept-line}
+use Rattle.sections.specs.Lines.{stored}
+use Rattle.whole.specs.Kept.{Kept}
+use Rattle.protocol_laws.proofs.KeptLine.{kept-line}
 use Rattle.protocol_laws.specs.Promises.{after, Unrefused}
 
 pub kept-after : (ls : List (List ℕ)) (t : Tables) (k : ℕ) → Kept t → Unrefused t k ls (length ls) → Kept (after (length ls) ls t)

@@ -1,4 +1,5 @@
 pub mod Bell
+pub mod KeptLine
 pub mod KeptLines
 pub mod Why
 pub mod Accepted

@@ -16,9 +16,10 @@ use Rattle.tables.specs.Tables.{clearedTables}
 use Rattle.records.specs.Line.{Line, sectionOf}
 use Rattle.records.specs.Checks.{lineRefusal}
 use Rattle.records.proofs.Numbers.{tells-number, lineNumber, refuses}
-use Rattle.protocol.specs.declared.Reading.{Reading}
-use Rattle.sections.specs.Storing.{stored}
-use Rattle.protocol.specs.Reading.{refused, accepted, unless, pickReading, wholeRefusal, readLines, readProtocol}
+use Rattle.whole.specs.declared.Reading.{Reading}
+use Rattle.whole.specs.Whole.{refused, accepted, unless, pickReading, wholeRefusal}
+use Rattle.sections.specs.Lines.{stored, readLines}
+use Rattle.protocol.specs.Reading.{readProtocol}
 use Rattle.protocol_laws.specs.Written.{tabbed, ended, records, protocolText, WrittenBack, ReadAgain, SameText}
 use Rattle.sections.proofs.Passed.{Passed, line-passed}
 use Rattle.protocol_laws.proofs.WrittenText.{tabbed-fields, ended-lines}

@@ -19,15 +19,17 @@ use Rattle.tables.specs.declared.Tables.{Tables}
 use Rattle.tables.specs.Tables.{clearedTables}
 use Rattle.records.specs.Line.{Line, sectionOf}
 use Rattle.records.specs.Checks.{shaped, lineChecks, lineRefusal}
-use Rattle.protocol.specs.declared.Reading.{Reading}
-use Rattle.sections.specs.Storing.{stored}
-use Rattle.protocol.specs.Reading.{refused, accepted, noEntryAt, wholeChecks, wholeRefusal, readLines, readProtocol}
+use Rattle.whole.specs.declared.Reading.{Reading}
+use Rattle.whole.specs.Whole.{refused, accepted, noEntryAt, wholeChecks, wholeRefusal}
+use Rattle.sections.specs.Lines.{stored, readLines}
+use Rattle.protocol.specs.Reading.{readProtocol}
 use Rattle.protocol_laws.specs.Promises.{after, fieldsAt, refusalAt, Unrefused, BadOpening, BadLine, BadWhole, AllRead, LinesAnswered, linesOf, EveryAnswer, atEnd, Unbroken, Comes, Why, OnlyUnderItsRow, RefusedCleared, too-big, no-end, header, shape, order, name, not-declared, declared-twice, too-many, stall-stable, clashes, no-message, no-entry}
-use Rattle.protocol.specs.Kept.{Kept}
-use Rattle.protocol.proofs.Kept.{kept-cleared}
+use Rattle.whole.specs.Kept.{Kept}
+use Rattle.sections.proofs.Kept.{kept-cleared}
 use Rattle.protocol_laws.proofs.KeptLines.{kept-after}
-use Rattle.protocol.proofs.Whole.{first-no-entry}
-use Rattle.protocol.proofs.Protocol.{unless-passed, unless-refused, body}
+use Rattle.whole.proofs.Whole.{first-no-entry}
+use Rattle.whole.proofs.Unless.{unless-passed, unless-refused}
+use Rattle.protocol.proofs.Protocol.{body}
 
 -- ---- one line on
 

@@ -25,7 +25,7 @@ use Rattle.records.specs.Checks.{shaped, stallShape, goShape, isCache, isTrigge
 use Rattle.records.proofs.Sections.{other-word}
 use Rattle.cells.proofs.Shapes.{and-left, and-right}
 use Rattle.protocol_laws.specs.Written.{controllerWord, messageName, stateRow, triggerName, outcomeFields, cellFields}
-use Rattle.lines.proofs.Words.{not-in}
+use Rattle.sections.proofs.Words.{not-in}
 use Rattle.protocol_laws.proofs.WrittenFields.{first-word, controller-word}
 
 -- The tables have room for all that is counted.

@@ -19,7 +19,7 @@ use Rattle.records.specs.Line.{Line, field, says, Section, message, event, stat
 use Rattle.records.specs.Checks.{shaped}
 use Rattle.cells.proofs.Shapes.{and-left, and-right}
 use Rattle.protocol_laws.specs.Written.{kindWord, controllerWord, stabilityWord, messageFields, eventFields, stateFields}
-use Rattle.lines.proofs.Words.{not-in}
+use Rattle.sections.proofs.Words.{not-in}
 
 -- ---- fixed words
 

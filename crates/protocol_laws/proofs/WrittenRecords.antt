@@ -23,7 +23,7 @@ use Rattle.tables.specs.Tables.{noMessage, noEvent, noState, noCell, clearedTab
 use Rattle.tables.proofs.Stored.{message-stored, event-stored, state-stored, cell-stored}
 use Rattle.records.specs.Line.{Line, Section, message, event, state, cell, unknown, sectionOf, messageOf, eventOf, stateOf, cellOf}
 use Rattle.records.specs.Checks.{knownCell}
-use Rattle.sections.specs.Storing.{storedIn}
+use Rattle.sections.specs.Lines.{storedIn}
 use Rattle.protocol_laws.specs.Written.{controllerWord, stateRow, triggerName, outcomeFields, messageFields, eventFields, stateFields, cellFields, records}
 use Rattle.sections.proofs.Passed.{Passed}
 use Rattle.protocol_laws.proofs.WrittenFields.{message-fields, event-fields, state-fields}

@@ -18,10 +18,11 @@ use Rattle.tables.specs.Cells.{cellsOf, relationsOfTables}
 use Rattle.tables.specs.Relations.{cellAt, FirstNoEntry}
 use Rattle.records.specs.Line.{Line, Section, sectionOf}
 use Rattle.records.specs.Checks.{shaped, laterRead, badName, notKnown, twice, full, stallInStable, conflict, lineChecks, lineRefusal}
-use Rattle.protocol.specs.declared.Reading.{Reading}
-use Rattle.sections.specs.Storing.{stored}
-use Rattle.protocol.specs.Reading.{refused, accepted, cellLine, wholeChecks, wholeRefusal, readProtocol}
-use Rattle.protocol.specs.Kept.{Kept}
+use Rattle.whole.specs.declared.Reading.{Reading}
+use Rattle.whole.specs.Whole.{refused, accepted, cellLine, wholeChecks, wholeRefusal}
+use Rattle.sections.specs.Lines.{stored}
+use Rattle.protocol.specs.Reading.{readProtocol}
+use Rattle.whole.specs.Kept.{Kept}
 
 -- ---- the lines, one after the other
 

@@ -1,3 +1,7 @@
+pub mod Steps
 pub mod Passed
-pub mod Storing
-pub mod Determined
+pub mod Kept
+pub mod Words
+pub mod Going
+pub mod Leaving
+pub mod Lines

@@ -1,11 +1,9 @@
 -- A line that is not refused passes each of the eight checks.
 use Prim.Native.Nat.{ℕ, _<_}
-use mathlib.Core.Path.{_≡_, refl, sym, ap, subst, _∙_}
+use mathlib.Core.Path.{_≡_, refl, sym, ap, _∙_}
 use mathlib.Core.Bool.{Bool, true, false, not}
 use mathlib.Core.List.{List}
 use native.Mathlib.Omega.{arith}
-use lib.Dec.{leb}
-use borrow.Author.Tests.{leb-false}
 use Rattle.papers.specs.declared.Refusal.{Refusal}
 use Rattle.papers.specs.Checks.{firstOf}
 use Rattle.papers.proofs.Checks.{passed-by}
@@ -59,9 +57,3 @@ line-passed t line n f e = passed (sectionOf (split 9 line)) t 0 (split 9 line) 
   where
     zero : (n : ℕ) → n ≡ 0 → tells n 0 .number ≡ 0
     zero n e = rw e refl
-
-pub passed-as : (t : Tables) (line : List ℕ) (s : Section) (n : ℕ) → sectionOf (split 9 line) ≡ s → Refuses t line n → n ≡ 0 → Passed s t (split 9 line)
-passed-as t line s n e r z = subst (λ (k : Section). Passed k t (split 9 line)) e (line-passed t line n r z)
-
-pub below : (a b : ℕ) → leb a b ≡ false → b < a
-below a b e = omega (arith, leb-false a b e)

@@ -1,17 +1,21 @@
 -- `protocol::read_protocol` meets its contract.
 use Prim.Native.Nat.{_+_}
-use mathlib.Core.Path.{refl, sym, _∙_}
+use mathlib.Core.Path.{refl, sym, subst, _∙_}
 use native.Mathlib.Omega.{arith}
 use borrow.Author.Needs.{needs}
+use Rattle.tables.specs.Tables.{clearedTables}
 use Rattle.protocol.proofs.Protocol.{Begun, not-opened, begun}
 use Rattle.protocol.proofs.read_protocol.Statement.{statement}
 use Rattle.protocol.proofs.read_protocol.Tie as tie
 
 -- the reading comes to the first line behind the header
-opened : (c : tie.After-find) → Begun (c .before .before .before .before .before .before .args .text .now) (c .find .result + 1)
+opened : (c : tie.After-find) → Begun (c .before .before .before .before .before .before .args .text .now) (c .find .result + 1) clearedTables
 opened c =
     let o = c .before .before .before .opening in
     begun (c .before .before .before .before .before .before .args .text .now) (o .result) (o .ensures) (c .before .if1 .left) (c .find .result) (c .find .ensures)
+
+at-messages : (c : tie.After-cleared) → Begun (c .before .before .before .before .before .before .before .args .text .now) (c .before .find .result + 1) (c .cleared .result)
+at-messages c = subst (Begun (c .before .before .before .before .before .before .before .args .text .now) (c .before .find .result + 1)) (sym (c .cleared .ensures)) (opened (c .before))
 
 slice-aggregate-opening : tie.Need-slice-aggregate-opening
 slice-aggregate-opening c = refl
@@ -30,14 +34,17 @@ returns c =
 find-requires : tie.Need-find-requires
 find-requires c κs = search needs
 
-add-read-lines : tie.Need-add-read-lines
-add-read-lines c = let w = opened c in omega (arith, w .placed .lined .within, w .placed .small)
+add-read-messages : tie.Need-add-read-messages
+add-read-messages c = let w = opened c in omega (arith, w .placed .lined .within, w .placed .small)
 
-read-lines-requires : tie.Need-read-lines-requires
-read-lines-requires c κs = opened c .placed
+cleared-requires : tie.Need-cleared-requires
+cleared-requires c κs = search needs
+
+read-messages-requires : tie.Need-read-messages-requires
+read-messages-requires c κs = let w = at-messages c in (w .kept, w .placed, w .stage)
 
 returns-2 : tie.Need-returns-2
-returns-2 c = c .read-lines .ensures ∙ sym (opened (c .before) .on)
+returns-2 c = c .read-messages .ensures ∙ sym (at-messages (c .before) .on)
 
 pub read-protocol-spec : {M : Type 1} → statement M
 read-protocol-spec =
@@ -48,6 +55,7 @@ read-protocol-spec =
     refused-at-requires
     returns
     find-requires
-    add-read-lines
-    read-lines-requires
+    add-read-messages
+    cleared-requires
+    read-messages-requires
     returns-2)
