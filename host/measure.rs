@@ -22,6 +22,7 @@ pub fn thread_time() -> u128 {
     time.seconds as u128 * 1_000_000_000 + time.nanoseconds as u128
 }
 
+#[allow(dead_code)]
 pub fn median(mut figures: Vec<f64>) -> f64 {
     figures.sort_by(|a, b| a.partial_cmp(b).unwrap());
     figures[figures.len() / 2]

@@ -310,16 +310,23 @@ impl Draft {
 }
 
 fn draft_names(random: &mut Random) -> Draft {
-    let many = random.chance(1, 10);
+    if random.chance(1, 10) {
+        draft_up_to(random, 32, 8, 64)
+    } else {
+        draft_up_to(random, 8, 3, 10)
+    }
+}
+
+/// Names of at least one message and state, up to the given numbers of each.
+fn draft_up_to(random: &mut Random, most_messages: usize, most_events: usize, most_states: usize) -> Draft {
     let mut taken = BTreeSet::new();
-    let most_messages = if many { 32 } else { 8 };
     let message_count = random.between(1, most_messages);
-    let event_count = random.below(if many { 9 } else { 4 });
+    let event_count = random.below(most_events + 1);
     let messages = fresh_names(random, message_count, &mut taken);
     let events = fresh_names(random, event_count, &mut taken);
     let mut states = Vec::new();
     let (mut cache_names, mut dir_names) = (BTreeSet::new(), BTreeSet::new());
-    for _ in 0..random.between(1, if many { 64 } else { 10 }) {
+    for _ in 0..random.between(1, most_states) {
         let on_cache = random.chance(1, 2);
         let taken = if on_cache { &mut cache_names } else { &mut dir_names };
         let name = fresh_names(random, 1, taken).remove(0);
@@ -406,10 +413,24 @@ fn draft_stall(random: &mut Random, draft: &mut Draft) {
 
 /// A protocol text that is accepted most of the time.
 pub fn protocol_text(random: &mut Random) -> Vec<u8> {
-    let mut draft = draft_names(random);
+    let draft = draft_names(random);
     let most_goes = if random.chance(1, 20) { 300 } else { 30 };
     let goes = random.below(most_goes);
     let stalls = random.below(60);
+    drafted_text(random, draft, goes, stalls)
+}
+
+/// The same with few messages, states and cells, for tests that read very
+/// many texts.
+pub fn small_protocol_text(random: &mut Random) -> Vec<u8> {
+    let most = if random.chance(1, 8) { 12 } else { 5 };
+    let draft = draft_up_to(random, most, 3, most);
+    let goes = random.between(most / 2, 2 * most);
+    let stalls = random.below(3 * most);
+    drafted_text(random, draft, goes, stalls)
+}
+
+fn drafted_text(random: &mut Random, mut draft: Draft, goes: usize, stalls: usize) -> Vec<u8> {
     for _ in 0..goes {
         draft_go(random, &mut draft);
     }

@@ -1134,7 +1134,7 @@ pub fn judge_with_room(protocol_text: &[u8], mapping_text: &[u8], room: usize) -
 
 /// Refusal 16 comes last: "the finished text or list is longer than the lent
 /// output". "ROOM also returns the length needed".
-fn with_room(result: Result<Listing, Refusal>, room: usize) -> TextAnswer {
+pub fn with_room(result: Result<Listing, Refusal>, room: usize) -> TextAnswer {
     let mut answer =
         TextAnswer { number: 0, paper: 0, line: 0, length: 0, needed: 0, bytes: Vec::new() };
     match result {

@@ -56,7 +56,7 @@ fn short_texts() {
 fn random_texts() {
     let mut random = Random::new(seed());
     let mut accepted = 0;
-    for _ in 0..3_000 {
+    for _ in 0..600 {
         let mut text = random::protocol_text(&mut random);
         for _ in 0..random.below(3) {
             text = random::damage(&mut random, &text);
@@ -64,6 +64,6 @@ fn random_texts() {
         compare(&text);
         accepted += usize::from(wanted(&text).0 == 0);
     }
-    println!("{} of 3000 accepted", accepted);
-    assert!(accepted > 300 && accepted < 2_700);
+    println!("{} of 600 accepted", accepted);
+    assert!(accepted > 60 && accepted < 540);
 }

@@ -111,7 +111,97 @@ static inline void vn_set_pair(uint8_t *table, unsigned from, unsigned to)
     table[VN_ROW_BYTES * from + to / 8] |= (uint8_t)(1u << to % 8);
 }
 
-/* ---- Reading a protocol text: link with -lprotocol ---- */
+/* ---- Plans and judgements of texts: link with -ljudge ---- */
+
+/* The most bytes of a text. */
+#define VN_MOST_BYTES 49152
+
+/* No listing is longer: an output of so many bytes is never refused by 16. */
+#define VN_LONGEST_LISTING 2001
+
+/*
+ * Refusal numbers of texts. The order of the checks: VN_TOO_BIG, VN_NO_END,
+ * VN_HEADER, then the first bad line, and within it the smallest number; then
+ * VN_NO_MESSAGE and VN_NO_ENTRY; VN_ROOM comes last. A judgement checks the
+ * protocol first, then the mapping.
+ */
+#define VN_TOO_BIG 1       /* the text has more than 49,152 bytes; line 0 */
+#define VN_NO_END 2        /* the last line does not end with byte 10 */
+#define VN_HEADER 3        /* the first line is missing or another; line 1 */
+#define VN_SHAPE 4         /* unknown record, count of fields, or fixed word */
+#define VN_ORDER 5         /* a record of an earlier section */
+#define VN_NAME 6          /* a declared name is no name */
+#define VN_UNKNOWN 7       /* a name that is not declared, or not allowed there */
+#define VN_TWICE 8         /* a name that is declared already */
+#define VN_FULL 9          /* one more than a limit */
+#define VN_STALL_STABLE 10 /* a stall in a stable state */
+#define VN_CONFLICT 11     /* two cells at one place, one of them a stall */
+#define VN_NO_MESSAGE 12   /* there is no message; line 0 */
+#define VN_NO_ENTRY 13     /* a message is stalled where no message leads */
+#define VN_UNMATCHED 14    /* mapping: another message than the next, or too few or too many */
+#define VN_NETWORK 15      /* mapping: no network number, or above 31 */
+
+/* Which text a refusal speaks of. */
+#define VN_PAPER_PROTOCOL 0
+#define VN_PAPER_MAPPING 1
+
+/*
+ * vn_plan_text reads a protocol and writes the listing of its plan to out:
+ *
+ *   vn-plan  1                  vn-plan  1
+ *   class  3                    class  2
+ *   networks  COUNT             cycle  NAME  NAME ..
+ *   map  NAME  NETWORK
+ *   ..
+ *
+ * vn_judge_texts reads a protocol and a mapping and writes the judgement:
+ *
+ *   vn-judge  1                 vn-judge  1
+ *   fit                         unfit
+ *                               step  NAME  waits  NAME
+ *                               step  NAME  queues  NAME
+ *                               ..
+ *
+ * Fields are parted by tabs; each line ends with byte 10. There is no byte 0
+ * at the end. Bytes of out after the length stay as they were. Refused: no
+ * byte of out changes.
+ *
+ * The returned number, taken apart by the functions below:
+ *
+ *   bits  0 to  7  the refusal number, 0 when there is a listing
+ *   bits  8 to 15  the paper that a refusal speaks of
+ *   bits 16 to 31  the line that it tells, counted from 1; 0: the whole text
+ *   bits 32 to 47  the length of the listing; with VN_ROOM the length needed
+ *   bits 48 to 63  0
+ *
+ * Whatever is not said to have a value is 0.
+ *
+ * What the caller owes is what vn_relations asks: each pointer is good for as
+ * many bytes as the length after it says, out shares no byte with a text, and
+ * no pointer is NULL. A call takes less than 256 KB of stack.
+ */
+uint64_t vn_plan_text(const uint8_t *text, size_t text_length, uint8_t *out, size_t out_length);
+
+uint64_t vn_judge_texts(const uint8_t *protocol, size_t protocol_length,
+                        const uint8_t *mapping, size_t mapping_length,
+                        uint8_t *out, size_t out_length);
+
+/* Bits 8 to 15: VN_PAPER_PROTOCOL or VN_PAPER_MAPPING. */
+static inline unsigned vn_paper(uint64_t answer) { return (unsigned)(answer >> 8 & 0xff); }
+
+/* Bits 32 to 47: the length of the listing, 0 when the call was refused. */
+static inline size_t vn_listing_length(uint64_t answer)
+{
+    return vn_refusal(answer) == VN_ACCEPTED ? (size_t)(answer >> 32 & 0xffff) : 0;
+}
+
+/* Bits 32 to 47 with VN_ROOM: the length needed, else 0. */
+static inline size_t vn_listing_needed(uint64_t answer)
+{
+    return vn_refusal(answer) == VN_ROOM ? (size_t)(answer >> 32 & 0xffff) : 0;
+}
+
+/* ---- Reading a protocol text alone: link with -lprotocol ---- */
 
 /*
  * Whether a protocol text is accepted, and if not why and where. Any bytes
@@ -127,7 +217,7 @@ static inline void vn_set_pair(uint8_t *table, unsigned from, unsigned to)
  */
 uint64_t vn_check_protocol(const uint8_t *text, size_t text_length);
 
-/* Bits 16 to 31: the line that a refusal tells. */
+/* Bits 16 to 31: the line that a refusal tells; of the calls above too. */
 static inline unsigned vn_line(uint64_t answer) { return (unsigned)(answer >> 16 & 0xffff); }
 
 #ifdef __cplusplus

@@ -148,8 +148,8 @@ fn print_tables(t: Tables)
     print_number(t.event_count);
     print_number(t.state_count);
     print_number(t.cell_count);
-    let causes = tables::causes_rows(t);
-    let stalls = tables::stalls_rows(t);
+    let causes = causing::causes_rows(t);
+    let stalls = stalling::stalls_rows(t);
     print_word(b" causes");
     print_rows(causes, t.message_count);
     print_word(b" stalls");

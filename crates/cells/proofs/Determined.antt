@@ -9,30 +9,11 @@ use Rattle.tables.specs.declared.MessageRow.{MessageRow}
 use Rattle.tables.specs.declared.EventRow.{EventRow}
 use Rattle.tables.specs.declared.StateRow.{StateRow}
 use Rattle.tables.specs.declared.Cell.{Cell}
-use Rattle.tables.specs.declared.Tables.{Tables}
+use Rattle.tables.specs.Given.{Declared}
+use Rattle.tables.proofs.Given.{given, given-declared}
 use Rattle.records.proofs.Numbers.{refuses-one}
 use Rattle.cells.specs.declared.CellLine.{CellLine}
-use Rattle.cells.specs.Told.{Declared, CellTold}
-
-module _
-    (messages : List MessageRow) (message-count : ℕ) (events : List EventRow) (event-count : ℕ) (states : List StateRow) (state-count : ℕ)
-    (cells : List Cell) (count : ℕ) where
-  -- the tables with these parts
-  abbrev pub given : Tables
-  given =
-      record {
-        messages = messages;
-        events = events;
-        states = states;
-        cells = cells;
-        «message_count» = message-count;
-        «event_count» = event-count;
-        «state_count» = state-count;
-        «cell_count» = count;
-      }
-
-  pub given-declared : Declared given messages message-count events event-count states state-count
-  given-declared = record { messages-are = refl; messages-many = refl; events-are = refl; events-many = refl; states-are = refl; states-many = refl }
+use Rattle.cells.specs.Told.{CellTold}
 
 module _ (line : List ℕ)
     (messages : List MessageRow) (message-count : ℕ) (events : List EventRow) (event-count : ℕ) (states : List StateRow) (state-count : ℕ)

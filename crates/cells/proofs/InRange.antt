@@ -27,10 +27,10 @@ use Rattle.records.proofs.Numbers.{lineNumber, refuses, refuses-one}
 use Rattle.records.proofs.Sections.{a-cell}
 use Rattle.cells.specs.declared.CellLine.{CellLine}
 use Rattle.cells.specs.Told.{CellTold}
-use Rattle.cells.specs.Shape.{Stalls, Goes}
-use Rattle.cells.proofs.Shapes.{and-left, and-right, shaped-way}
+use Rattle.cell_shapes.specs.Shape.{Stalls, Goes}
+use Rattle.cell_shapes.proofs.Shapes.{and-left, and-right, shaped-way}
 use Rattle.cells.proofs.Judging.{in-order}
-use Rattle.cells.proofs.Determined.{given, given-declared}
+use Rattle.tables.proofs.Given.{given, given-declared}
 
 -- ---- what is known of a line that is not refused
 

@@ -20,13 +20,14 @@ use Rattle.records.specs.Line.{Line, says, cell}
 use Rattle.records.specs.Checks.{shaped, knownCell, stallInStable, conflict}
 use Rattle.records.proofs.Numbers.{eightOf, lineNumber, refuses}
 use Rattle.records.proofs.Sections.{a-cell}
-use Rattle.cells.specs.declared.Reading.{Reading}
+use Rattle.readings.specs.declared.Reading.{Reading}
 use Rattle.cells.specs.declared.CellLine.{CellLine}
-use Rattle.cells.specs.declared.Shape.the-variants.{Wrong}
-use Rattle.cells.specs.Shape.{shapeOf}
-use Rattle.cells.specs.Known.{CellRead}
-use Rattle.cells.specs.Told.{Declared, CellTold, refusedLine, judgedNumber, Judged}
-use Rattle.cells.proofs.Shapes.{wrong-shape}
+use Rattle.cell_shapes.specs.declared.Shape.the-variants.{Wrong}
+use Rattle.cell_shapes.specs.Shape.{shapeOf}
+use Rattle.readings.specs.Known.{CellRead}
+use Rattle.tables.specs.Given.{Declared}
+use Rattle.cells.specs.Told.{CellTold, refusedLine, judgedNumber, Judged}
+use Rattle.cell_shapes.proofs.Shapes.{wrong-shape}
 
 -- ---- what is read of the line
 

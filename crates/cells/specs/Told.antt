@@ -13,18 +13,11 @@ use Rattle.tables.specs.declared.Cell.{Cell}
 use Rattle.tables.specs.declared.Tables.{Tables}
 use Rattle.tables.specs.Tables.{noCell}
 use Rattle.tables.specs.Clash.{anyClash}
+use Rattle.tables.specs.Given.{Declared}
 use Rattle.records.specs.Line.{cellOf}
 use Rattle.records.specs.Told.{Refuses}
-use Rattle.cells.specs.declared.Reading.{Reading}
+use Rattle.readings.specs.declared.Reading.{Reading}
 use Rattle.cells.specs.declared.CellLine.{CellLine}
-
-pub record Declared (t : Tables) (messages : List MessageRow) (message-count : ℕ) (events : List EventRow) (event-count : ℕ) (states : List StateRow) (state-count : ℕ) : Type 0 where
-  pub messages-are : t .messages ≡ messages
-  pub messages-many : t .«message_count» ≡ message-count
-  pub events-are : t .events ≡ events
-  pub events-many : t .«event_count» ≡ event-count
-  pub states-are : t .states ≡ states
-  pub states-many : t .«state_count» ≡ state-count
 
 pub record CellTold
     (line : List ℕ)

@@ -46,7 +46,7 @@ pub struct StateLine {
 fn no_message(number: u8) -> MessageLine
     ensures { λ r. ⌜ (r .number ≡ number) × (r .row ≡ noMessage) ⌝ }
 {
-    let name = text::no_name();
+    let name = naming::no_name();
     let row = MessageRow {
         name: name,
         kind: Kind::Req,
@@ -61,7 +61,7 @@ fn no_message(number: u8) -> MessageLine
 fn no_event(number: u8) -> EventLine
     ensures { λ r. ⌜ (r .number ≡ number) × (r .row ≡ noEvent) ⌝ }
 {
-    let name = text::no_name();
+    let name = naming::no_name();
     let row = EventRow { name: name };
     EventLine {
         number: number,
@@ -73,7 +73,7 @@ fn no_event(number: u8) -> EventLine
 fn no_state(number: u8) -> StateLine
     ensures { λ r. ⌜ (r .number ≡ number) × (r .row ≡ noState) ⌝ }
 {
-    let name = text::no_name();
+    let name = naming::no_name();
     let row = StateRow {
         name: name,
         controller: Controller::Cache,
@@ -127,7 +127,7 @@ fn state_declared(
     requires { ⌜ FieldsAre (now line) f × (i < f .count) × (count ≤ 64) ⌝ }
     ensures { λ r. ⌜ r ≡ stateDeclared states count controller (field (split 9 (now (line .entry))) i) ⌝ }
 {
-    let found = names::state_named(states, count, controller, records::field_at(line, f, i));
+    let found = state_names::state_named(states, count, controller, records::field_at(line, f, i));
     match found {
         FoundState::At(_) => true,
         FoundState::Nothing => false,
@@ -139,7 +139,7 @@ fn name_fits(line: &[u8], f: Fields, i: usize) -> bool
     requires { ⌜ FieldsAre (now line) f × (i < f .count) ⌝ }
     ensures { λ r. ⌜ r ≡ nameRule (field (split 9 (now (line .entry))) i) ⌝ }
 {
-    text::is_name(records::field_at(line, f, i))
+    name_rule::is_name(records::field_at(line, f, i))
 }
 
 // The name that field i is.
@@ -147,7 +147,7 @@ fn name_at(line: &[u8], f: Fields, i: usize) -> Name
     requires { ⌜ FieldsAre (now line) f × (i < f .count) × (nameRule (field (split 9 (now line)) i) ≡ true) ⌝ }
     ensures { λ r. ⌜ r ≡ nameOf (field (split 9 (now (line .entry))) i) ⌝ }
 {
-    text::name_of(records::field_at(line, f, i))
+    naming::name_of(records::field_at(line, f, i))
 }
 
 // A message's line, while only messages were read.

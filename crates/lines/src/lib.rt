@@ -19,7 +19,7 @@ pub fn next_line(text: &[u8], at: usize, word: &[u8]) -> NextLine
 {
     let e = text::find(text, 10, at, text.len());
     let part = &text[at..e];
-    let f = text::fields_of(part, 0, part.len());
+    let f = fields::fields_of(part, 0, part.len());
     let is = records::is_record(part, f, word);
     NextLine {
         end: e,

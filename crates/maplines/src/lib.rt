@@ -15,7 +15,7 @@ pub struct MapLine {
 pub fn is_map(line: &[u8]) -> bool
     ensures { λ r. ⌜ r ≡ shaped (split 9 (now (line .entry))) ⌝ }
 {
-    let fields = text::fields_of(line, 0, line.len());
+    let fields = fields::fields_of(line, 0, line.len());
     if fields.count != 3 {
         return false;
     }
@@ -31,7 +31,7 @@ pub fn map_line(line: &[u8], row: MessageRow) -> MapLine
     requires { ⌜ shaped (split 9 (now line)) ≡ true ⌝ }
     ensures { λ r. ⌜ r ≡ mapLine row (split 9 (now (line .entry))) ⌝ }
 {
-    let fields = text::fields_of(line, 0, line.len());
+    let fields = fields::fields_of(line, 0, line.len());
     let starts = fields.from;
     let ends = fields.to;
     let a = starts[1];
@@ -40,7 +40,7 @@ pub fn map_line(line: &[u8], row: MessageRow) -> MapLine
     let t = ends[2];
     let name = row.name;
     let network = networks::network_of(&line[s..t]);
-    let matched = text::named(name, &line[a..e]);
+    let matched = naming::named(name, &line[a..e]);
     if !matched {
         return MapLine {
             number: 14,

@@ -4,14 +4,11 @@ use mathlib.Core.List.{List}
 use Prim.Native.Nat.{ℕ}
 use lib.ListN.{take}
 use Rattle.text.specs.Parts.{firstIndex}
-use Rattle.tables.specs.declared.Controller.{Controller}
 use Rattle.tables.specs.declared.MessageRow.{MessageRow}
 use Rattle.tables.specs.declared.EventRow.{EventRow}
-use Rattle.tables.specs.declared.StateRow.{StateRow}
 use Rattle.names.specs.declared.FoundMessage.{FoundMessage}
 use Rattle.names.specs.declared.FoundEvent.{FoundEvent}
-use Rattle.names.specs.declared.FoundState.{FoundState}
-use Rattle.names.specs.Names.{messageNamed, eventNamed, stateNamed, foundMessage, foundEvent, foundState}
+use Rattle.names.specs.Names.{messageNamed, eventNamed, foundMessage, foundEvent}
 
 pub message-named-determined : (rows : List MessageRow) (n : ℕ) (x : List ℕ) (r s : FoundMessage)
     → r ≡ foundMessage (firstIndex (messageNamed x) (take n rows)) n → s ≡ foundMessage (firstIndex (messageNamed x) (take n rows)) n → r ≡ s
@@ -20,7 +17,3 @@ message-named-determined rows n x r s p q = p ∙ sym q
 pub event-named-determined : (rows : List EventRow) (n : ℕ) (x : List ℕ) (r s : FoundEvent)
     → r ≡ foundEvent (firstIndex (eventNamed x) (take n rows)) n → s ≡ foundEvent (firstIndex (eventNamed x) (take n rows)) n → r ≡ s
 event-named-determined rows n x r s p q = p ∙ sym q
-
-pub state-named-determined : (rows : List StateRow) (n : ℕ) (c : Controller) (x : List ℕ) (r s : FoundState)
-    → r ≡ foundState (firstIndex (stateNamed c x) (take n rows)) n → s ≡ foundState (firstIndex (stateNamed c x) (take n rows)) n → r ≡ s
-state-named-determined rows n c x r s p q = p ∙ sym q

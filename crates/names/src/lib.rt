@@ -1,16 +1,14 @@
-// Names in the tables: which message, event or state has one.
+// Names in the tables: which message or event has one, and what is found of each kind.
 ghost use mathlib.Core.Path.{_≡_};
 ghost use Prim.Native.Nat.{_≤_};
 ghost use lib.ListN.{take};
 ghost use Rattle.text.specs.Parts.{firstIndex};
-ghost use Rattle.names.specs.Names.{sameController, messageNamed, eventNamed, stateNamed, foundMessage, foundEvent, foundState};
+ghost use Rattle.names.specs.Names.{messageNamed, eventNamed, foundMessage, foundEvent};
 use rules::Event;
 use rules::Message;
 use rules::State;
-use tables::Controller;
 use tables::EventRow;
 use tables::MessageRow;
-use tables::StateRow;
 
 pub enum FoundMessage {
     At(Message),
@@ -36,7 +34,7 @@ pub fn message_named(messages: [MessageRow; 32], count: usize, part: &[u8]) -> F
     while i < count {
         let row = messages[i];
         let name = row.name;
-        if text::named(name, part) {
+        if naming::named(name, part) {
             return FoundMessage::At(Message(i as u8));
         }
         i += 1;
@@ -53,59 +51,10 @@ pub fn event_named(events: [EventRow; 8], count: usize, part: &[u8]) -> FoundEve
     while i < count {
         let row = events[i];
         let name = row.name;
-        if text::named(name, part) {
+        if naming::named(name, part) {
             return FoundEvent::At(Event(i as u8));
         }
         i += 1;
     }
     FoundEvent::Nothing
-}
-
-// Whether two controllers are the same one.
-fn same_controller(a: Controller, b: Controller) -> bool
-    ensures { λ r. ⌜ r ≡ sameController a b ⌝ }
-{
-    match a {
-        Controller::Cache => match b {
-            Controller::Cache => true,
-            Controller::Dir => false,
-        },
-        Controller::Dir => match b {
-            Controller::Cache => false,
-            Controller::Dir => true,
-        },
-    }
-}
-
-// Whether the row is a state of this controller and has this name.
-fn state_has(row: StateRow, controller: Controller, part: &[u8]) -> bool
-    ensures { λ r. ⌜ r ≡ stateNamed controller (now (part .entry)) row ⌝ }
-{
-    let whose = row.controller;
-    if !same_controller(whose, controller) {
-        return false;
-    }
-    let name = row.name;
-    text::named(name, part)
-}
-
-// The controller's state with this name, among the first rows.
-pub fn state_named(
-    states: [StateRow; 64],
-    count: usize,
-    controller: Controller,
-    part: &[u8],
-) -> FoundState
-    requires { ⌜ count ≤ 64 ⌝ }
-    ensures { λ r. ⌜ r ≡ foundState (firstIndex (stateNamed controller (now (part .entry))) (take count states)) count ⌝ }
-{
-    let mut i = 0;
-    while i < count {
-        let row = states[i];
-        if state_has(row, controller, part) {
-            return FoundState::At(State(i as u8));
-        }
-        i += 1;
-    }
-    FoundState::Nothing
 }

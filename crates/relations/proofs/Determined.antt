@@ -1,69 +1,15 @@
 -- The contracts determine the answers: two that they allow are equal, numbers and bytes.
-use Prim.Native.Nat.{ℕ, _+_, _*_, _<_, _≤_, _/_, _%_, _^_}
-use mathlib.Core.Path.{_≡_, refl, sym, subst, ap, ap₂, _∙_}
-use mathlib.Core.Logic.{_⊎_, inl, inr, _≢_}
-use mathlib.Core.List.{List, [], _∷_, _++_}
-use native.Mathlib.Decide.{ℕ-discrete, decLt}
-use native.Mathlib.Omega.{arith}
-use lib.ListN.{length, getD, drop}
-use lib.Seq.{ext-getD}
-use Rattle.rules.specs.Rules.{Relations}
-use Rattle.rules.proofs.Promises.{determined, one-class}
-use Rattle.rules.proofs.Unique.{pairs-one}
-use Rattle.rows.specs.Rows.{Bit, Rows, ofRows}
-use Rattle.rows.specs.Closure.{Kept}
-use Rattle.rows.proofs.Determined.{Wide, told-one}
-use Rattle.relations.specs.Tables.{rowsOf}
-use Rattle.relations.specs.Waiting.{WaitsRows, RowPairs}
-use Rattle.relations.specs.Call.{Check, FirstOf, checks, Refused, Wrote, Class3, Class2, Planned, Call, packed, Packed}
-use Rattle.relations.specs.declared.RelationsAnswer.{RelationsAnswer}
-
--- ---- the rows of waits, and their pairs
-
-pub waits-one : (w n : ℕ) (causes stalls old r s : List ℕ) → Wide w r → Wide w s → WaitsRows n causes stalls old r → WaitsRows n causes stalls old s → r ≡ s
-waits-one w n causes stalls old r s hr hs f g = ext-getD 0 r s (f .kept .long ∙ sym (g .kept .long)) (λ i h. go i (decLt i n))
-  where
-    go : (i : ℕ) → Dec (i < n) → getD r i 0 ≡ getD s i 0
-    go i (yes h) = told-one _ w (getD r i 0) (getD s i 0) (hr i) (hs i) (λ j. f .bits i j h) (λ j. g .bits i j h)
-    go i (no h) = f .kept .rest i (omega arith) ∙ sym (g .kept .rest i (omega arith))
-
-pub row-pairs-one : (n : ℕ) (rows : List ℕ) (j k : ℕ) → RowPairs n rows j → RowPairs n rows k → j ≡ k
-row-pairs-one n rows j k s t = pairs-one (Rows n rows) n n j k (s .counted) (t .counted)
-
--- ---- the call
-
-pub first-one : (checks : List Check) (j k : ℕ) → FirstOf checks j → FirstOf checks k → j ≡ k
-first-one [] j k s t = s ∙ sym t
-first-one (c ∷ cs) j k (inl s) (inl t) = s .1 ∙ sym (t .1)
-first-one (c ∷ cs) j k (inl s) (inr t) = absurd (t .0 (s .0))
-first-one (c ∷ cs) j k (inr s) (inl t) = absurd (s .0 (t .0))
-first-one (c ∷ cs) j k (inr s) (inr t) = first-one cs j k (s .1) (t .1)
-
-same-answer : (r s : RelationsAnswer) → r .number ≡ s .number → r .length ≡ s .length → r .networks ≡ s .networks → r .needed ≡ s .needed → r .pairs ≡ s .pairs → r ≡ s
-same-answer r s a b c d e =
-    let t : _≡_ {A = RelationsAnswer}
-    (record { number = r .number; length = r .length; networks = r .networks; needed = r .needed; pairs = r .pairs })
-    (record { number = s .number; length = s .length; networks = s .networks; needed = s .needed; pairs = s .pairs }) = cc
-    in t
-
-module _ (p : Relations) where
-  -- what is written, and the least count
-  class-one : (l m : List ℕ) (j k : ℕ) → Class3 p l j ⊎ Class2 p l j → Class3 p m k ⊎ Class2 p m k → (l ≡ m) × (j ≡ k)
-  class-one l m j k (inl s) (inl t) = (
-    ext-getD 0 l m (s .long ∙ sym (t .long)) (λ i h. determined .mapping p (λ i. getD l i 0) (λ i. getD m i 0) (s .printed) (t .printed) i (omega (arith, s .long))),
-    determined .least-count p j k (s .least) (t .least),
-  )
-  class-one l m j k (inl s) (inr t) = absurd (one-class p m j (t .cycle) (s .least))
-  class-one l m j k (inr s) (inl t) = absurd (one-class p l k (s .cycle) (t .least))
-  class-one l m j k (inr s) (inr t) = (determined .plan-cycle p l m (s .cycle) (t .cycle), s .none ∙ sym (t .none))
-
-  planned-one : (old new new′ : List ℕ) (r s : RelationsAnswer) → r .number ≡ s .number → Planned p old new r → Planned p old new′ s → (r ≡ s) × (new ≡ new′)
-  planned-one old new new′ r s e f g =
-      let c = class-one (f .text) (g .text) (r .networks) (s .networks) (f .class) (g .class) in
-      let l : r .length ≡ s .length = f .wrote .long ∙ ap length (c .0) ∙ sym (g .wrote .long) in (
-        same-answer r s e l (c .1) (f .needed-0 ∙ sym (g .needed-0)) (determined .waits-pairs p (r .pairs) (s .pairs) (f .waits-pairs) (g .waits-pairs)),
-        f .wrote .bytes ∙ ap₂ (λ (t : List ℕ) (k : ℕ). t ++ drop k old) (c .0) l ∙ sym (g .wrote .bytes),
-      )
+use Prim.Native.Nat.{ℕ}
+use mathlib.Core.Path.{_≡_, sym, ap, _∙_}
+use mathlib.Core.List.{List}
+use native.Mathlib.Decide.{ℕ-discrete}
+use lib.ListN.{length}
+use Rattle.rows.specs.Rows.{ofRows}
+use Rattle.call.specs.Tables.{rowsOf}
+use Rattle.call.specs.Call.{checks, Refused, Call, packed, Packed}
+use Rattle.call.specs.declared.RelationsAnswer.{RelationsAnswer}
+use Rattle.checks.proofs.Determined.{first-one}
+use Rattle.bare_plans.proofs.Determined.{same-answer, planned-one}
 
 refused-one : (n : ℕ) (old new new′ : List ℕ) (r s : RelationsAnswer) → r .number ≡ s .number → Refused n old new r → Refused n old new′ s → (r ≡ s) × (new ≡ new′)
 refused-one n old new new′ r s e f g = (

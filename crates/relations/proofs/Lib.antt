@@ -1,5 +1,1 @@
-pub mod Tables
-pub mod Waiting
 pub mod Determined
-pub mod Plans
-pub mod Calls

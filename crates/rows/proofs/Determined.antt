@@ -1,17 +1,14 @@
 -- The contracts determine the results: two that they allow are equal. A row of w bits is below 2 ^ w.
-use Prim.Native.Nat.{ℕ, _<_, _≤_, _/_, _%_, _^_}
-use mathlib.Core.Path.{_≡_, refl, sym, _∙_}
+use Prim.Native.Nat.{ℕ, _<_, _^_}
+use mathlib.Core.Path.{_≡_, refl, sym}
 use mathlib.Core.Bool.{Bool, true, false}
 use mathlib.Core.Logic.{_↔_}
 use mathlib.Core.List.{List}
-use native.Mathlib.Decide.{decLt}
 use native.Mathlib.Omega.{arith}
-use lib.ListN.{length, getD}
-use lib.Seq.{ext-getD}
+use lib.ListN.{getD}
 use Rattle.rules.proofs.Unique.{counts-one}
 use Rattle.rows.specs.Rows.{Bit}
 use Rattle.rows.specs.Row.{With, Without, Join, Lowest, Ones}
-use Rattle.rows.specs.Closure.{Kept, Closure}
 use Rattle.rows.proofs.Bits.{same-bits}
 
 -- the same answer to a question that can be told
@@ -47,10 +44,3 @@ ones-one w row r s f g = counts-one (Bit row) w r s (f .counted) (g .counted)
 -- each row is one of w bits
 abbrev pub Wide : ℕ → List ℕ → Type 0
 Wide w rows = (i : ℕ) → getD rows i 0 < 2 ^ w
-
-pub closure-one : (w n : ℕ) (given r s : List ℕ) → Wide w r → Wide w s → Closure n given r → Closure n given s → r ≡ s
-closure-one w n given r s hr hs f g = ext-getD 0 r s (f .kept .long ∙ sym (g .kept .long)) (λ i h. go i (decLt i n))
-  where
-    go : (i : ℕ) → Dec (i < n) → getD r i 0 ≡ getD s i 0
-    go i (yes h) = told-one _ w (getD r i 0) (getD s i 0) (hr i) (hs i) (λ j. f .reached i j h) (λ j. g .reached i j h)
-    go i (no h) = f .kept .rest i (omega arith) ∙ sym (g .kept .rest i (omega arith))

@@ -1,5 +1,4 @@
 pub mod Bits
 pub mod Given
 pub mod Filling
-pub mod Warshall
 pub mod Determined

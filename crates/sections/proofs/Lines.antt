@@ -21,7 +21,8 @@ use Rattle.declarations.specs.Told.{MessageTold, EventTold, StateTold}
 use Rattle.records.specs.Checks.{shaped, laterRead}
 use Rattle.shapes.specs.Shapes.{misplacedNumber, Misplaced}
 use Rattle.cells.specs.declared.CellLine.{CellLine}
-use Rattle.cells.specs.Told.{Declared, CellTold}
+use Rattle.tables.specs.Given.{Declared}
+use Rattle.cells.specs.Told.{CellTold}
 use Rattle.cells.proofs.InRange.{cell-ok}
 use Rattle.records.proofs.Sections.{a-message, an-event, a-state, a-cell}
 use Rattle.whole.specs.Whole.{refused}

@@ -1,8 +1,9 @@
 pub mod Gather
-pub mod Clashes
-pub mod AtCell
+pub mod Apart
+pub mod Adding
 pub mod AllCells
 pub mod InRange
 pub mod Stored
 pub mod Determined
 pub mod Bell
+pub mod Given

@@ -33,7 +33,7 @@ pub fn finished(t: Tables) -> Reading
     if messages == 0 {
         return refused_at(12, 0);
     }
-    let i = tables::no_entry(t);
+    let i = entries::no_entry(t);
     if i < t.cell_count {
         return refused_at(13, 2 + messages + t.event_count + t.state_count + i);
     }

@@ -1,7 +1,7 @@
 -- `relations::vn_relations` meets its contract. Assumes nothing.
 use native.Mathlib.Omega.{arith}
 use borrow.Author.Needs.{needs}
-use Rattle.relations.proofs.Calls.{Small, call-small}
+use Rattle.call.proofs.Calls.{Small, call-small}
 use Rattle.relations.proofs.vn_relations.Statement.{statement}
 use Rattle.relations.proofs.vn_relations.Tie as tie
 

@@ -1,0 +1,20 @@
+-- What a host reads out of a packed answer is the answer.
+use Prim.Native.Nat.{ℕ, _<_, _/_, _%_}
+use native.Mathlib.Omega.{arith}
+use Rattle.answers.specs.declared.Answer.{Answer}
+use Rattle.answers.specs.Answers.{Small, shownLength, packedAnswer, Unpacked}
+
+pub unpack : (a : Answer) → Small a → Unpacked (packedAnswer a) a
+unfolding packedAnswer
+unpack a s =
+    let h0 = s .number in
+    let h1 = s .paper in
+    let h2 = s .line in
+    let h3 = s .length in
+    record {
+      bits-0-7 = omega arith;
+      bits-8-15 = omega arith;
+      bits-16-31 = omega arith;
+      bits-32-47 = omega arith;
+      bits-48-63 = omega arith;
+    }

@@ -1,0 +1,12 @@
+-- What a program prints on a refusal: "Both programs print `refused` number paper line on a refusal, alone."
+use Prim.Native.Nat.{ℕ}
+use mathlib.Core.List.{List, _++_}
+use Rattle.text.specs.Words.{refusedWord, tab, newline}
+use Rattle.text.specs.Written.{decimal}
+
+-- A tab, and a number behind it.
+unfoldable pub tabbedNumber : ℕ → List ℕ
+tabbedNumber n = tab ++ decimal n
+
+unfoldable pub refusedText : ℕ → ℕ → ℕ → List ℕ
+refusedText number paper line = (((refusedWord ++ tabbedNumber number) ++ tabbedNumber paper) ++ tabbedNumber line) ++ newline

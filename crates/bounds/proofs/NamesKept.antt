@@ -1,0 +1,133 @@
+-- The names of an accepted text's messages.
+use Prim.Native.Nat.{ℕ, zero, suc, _+_, _≤_, _<_}
+use mathlib.Core.Path.{_≡_, refl, sym, ap, _∙_, subst}
+use mathlib.Core.Bool.{Bool, true, false, not}
+use mathlib.Core.List.{List, [], _∷_}
+use native.Mathlib.Omega.{arith}
+use lib.ListN.{length, getD, set, drop, replicate, length-set, length-replicate}
+use lib.Seq.{getD-set-same, getD-set-other}
+use lib.Dec.{eqb}
+use borrow.Author.Tests.{leb-false, eqb-true, eqb-false}
+use Rattle.text.specs.Parts.{split, lines}
+use Rattle.text.specs.Name.{nameRule, nameText, nameOf}
+use Rattle.text.specs.Words.{protocolHeader}
+use Rattle.text.proofs.NameLaws.{name-text, rule-length}
+use Rattle.papers.specs.declared.Refusal.{Refusal}
+use Rattle.papers.specs.Checks.{check, firstOf}
+use Rattle.papers.specs.Opening.{openingOf}
+use Rattle.papers.proofs.Checks.{passed-by}
+use Rattle.tables.specs.declared.MessageRow.{MessageRow}
+use Rattle.tables.specs.declared.Tables.{Tables}
+use Rattle.tables.specs.Tables.{noMessage, clearedTables, withMessage, withEvent, withState, withCell}
+use Rattle.records.specs.Line.{Line, Section, message, event, state, cell, unknown, sectionOf, field, messageOf}
+use Rattle.records.specs.Checks.{shaped, laterRead, badName, notKnown, twice, full, stallInStable, conflict, sectionChecks, lineRefusal}
+use Rattle.whole.specs.declared.Reading.{Reading}
+use Rattle.sections.specs.Lines.{readLines, storedIn, stored}
+use Rattle.protocol.specs.Reading.{readProtocol}
+use Rattle.whole.specs.Whole.{unless, pickReading, refused, accepted, wholeRefusal}
+use Rattle.bounds.specs.Bounds.{Named, NamesKept}
+
+-- ---- what a line that is not refused has passed
+
+module _ (s : Section) (t : Tables) (k : ℕ) (f : Line) (e : firstOf (sectionChecks s t k f) .number ≡ 0) where
+  after-order : firstOf (check 6 k (badName s f) ∷ (check 7 k (notKnown s t f) ∷ (check 8 k (twice s t f) ∷ (check 9 k (full s t) ∷ (check 10 k (stallInStable s t f) ∷ (check 11 k (conflict s t f) ∷ [])))))) .number ≡ 0
+  after-order = passed-by (check 5 k (laterRead s t)) _ (λ q. absurd (omega (arith, q))) (passed-by (check 4 k (not (shaped s f))) _ (λ q. absurd (omega (arith, q))) e .1) .1
+
+  passed-name : badName s f ≡ false
+  passed-name = passed-by (check 6 k (badName s f)) _ (λ q. absurd (omega (arith, q))) after-order .0
+
+  passed-full : full s t ≡ false
+  passed-full =
+      let a = passed-by (check 6 k (badName s f)) _ (λ q. absurd (omega (arith, q))) after-order .1 in
+      let b = passed-by (check 7 k (notKnown s t f)) _ (λ q. absurd (omega (arith, q))) a .1 in
+      let c = passed-by (check 8 k (twice s t f)) _ (λ q. absurd (omega (arith, q))) b .1 in
+      passed-by (check 9 k (full s t)) _ (λ q. absurd (omega (arith, q))) c .0
+
+-- ---- names
+
+named-cleared : Named clearedTables
+unfolding clearedTables
+named-cleared = record { long = length-replicate 32 noMessage; short = no-name 32; names = λ i h. absurd (omega (arith, h)) }
+  where
+    no-name : (n i : ℕ) → length (nameText (getD (replicate n noMessage) i noMessage .name)) ≤ 24
+    no-name zero i = omega (arith, ap length (name-text []))
+    no-name (suc n) zero = omega (arith, ap length (name-text []))
+    no-name (suc n) (suc i) = no-name n i
+
+not-not : (b : Bool) → not b ≡ false → b ≡ true
+not-not true e = refl
+not-not false e = sym e
+
+name-here : (f : Line) → badName message f ≡ false → nameRule (nameText (messageOf f .name)) ≡ true
+unfolding messageOf
+name-here f e = ap nameRule (name-text (field f 1)) ∙ not-not (nameRule (field f 1)) e
+
+named-message : (t : Tables) (row : MessageRow) → Named t → t .«message_count» < 32 → nameRule (nameText (row .name)) ≡ true → Named (withMessage t row)
+unfolding withMessage
+named-message t row n h g =
+    record {
+      long = length-set (t .messages) (t .«message_count») row ∙ n .long;
+      short = λ i. short-at i (eqb i (t .«message_count»)) refl;
+      names = λ i b. at i (eqb i (t .«message_count»)) refl b;
+    }
+  where
+    short-at : (i : ℕ) (d : Bool) → eqb i (t .«message_count») ≡ d
+        → length (nameText (getD (set (t .messages) (t .«message_count») row) i noMessage .name)) ≤ 24
+    short-at i true e =
+        let q = eqb-true i (t .«message_count») e in
+        subst (λ (r : MessageRow). length (nameText (r .name)) ≤ 24)
+        (sym (ap (λ (j : ℕ). getD (set (t .messages) (t .«message_count») row) j noMessage) q
+        ∙ getD-set-same (t .messages) (t .«message_count») row noMessage (omega (arith, h, n .long))))
+        (rule-length (nameText (row .name)) g .1)
+    short-at i false e =
+        let q = eqb-false i (t .«message_count») e in
+        subst (λ (r : MessageRow). length (nameText (r .name)) ≤ 24) (sym (getD-set-other (t .messages) (t .«message_count») i row noMessage q)) (n .short i)
+
+    at : (i : ℕ) (d : Bool) → eqb i (t .«message_count») ≡ d → i < t .«message_count» + 1
+        → nameRule (nameText (getD (set (t .messages) (t .«message_count») row) i noMessage .name)) ≡ true
+    at i true e b =
+        let q = eqb-true i (t .«message_count») e in
+        ap (λ (r : MessageRow). nameRule (nameText (r .name)))
+        (ap (λ (j : ℕ). getD (set (t .messages) (t .«message_count») row) j noMessage) q
+        ∙ getD-set-same (t .messages) (t .«message_count») row noMessage (omega (arith, h, n .long)))
+        ∙ g
+    at i false e b =
+        let q = eqb-false i (t .«message_count») e in
+        ap (λ (r : MessageRow). nameRule (nameText (r .name))) (getD-set-other (t .messages) (t .«message_count») i row noMessage q)
+        ∙ n .names i (omega (arith, b, q))
+
+named-stored : (s : Section) (t : Tables) (f : Line) → Named t → badName s f ≡ false → full s t ≡ false → Named (storedIn s t f)
+unfolding withEvent withState withCell
+named-stored message t f n e g = named-message t (messageOf f) n (omega (arith, leb-false 32 (t .«message_count») g)) (name-here f e)
+named-stored event t f n e g = record { long = n .long; short = n .short; names = n .names }
+named-stored state t f n e g = record { long = n .long; short = n .short; names = n .names }
+named-stored cell t f n e g = record { long = n .long; short = n .short; names = n .names }
+named-stored unknown t f n e g = n
+
+-- ---- the text
+
+unless-number : (r : Refusal) (a : Reading) → unless r a .number ≡ 0 → (r .number ≡ 0) × (unless r a ≡ a)
+unless-number r a e = go (eqb (r .number) 0) refl e
+  where
+    go : (b : Bool) → eqb (r .number) 0 ≡ b → pickReading b a (refused r) .number ≡ 0 → (r .number ≡ 0) × (pickReading b a (refused r) ≡ a)
+    go true q k = (eqb-true (r .number) 0 q, refl)
+    go false q k = absurd (eqb-false (r .number) 0 q k)
+
+named-lines : (k : ℕ) (ls : List (List ℕ)) (t : Tables) → Named t → readLines k ls t .number ≡ 0 → Named (readLines k ls t .tables)
+unfolding readLines lineRefusal
+named-lines k [] t n e = subst (λ (r : Reading). Named (r .tables)) (sym (unless-number (wholeRefusal t) (accepted t) e .1)) n
+named-lines k (l ∷ ls) t n e =
+    let f = split 9 l in
+    let q = unless-number (lineRefusal t k f) (readLines (suc k) ls (stored t f)) e in
+    subst (λ (r : Reading). Named (r .tables)) (sym (q .1))
+    (named-lines (suc k) ls (stored t f)
+    (named-stored (sectionOf f) t f n (passed-name (sectionOf f) t k f (q .0)) (passed-full (sectionOf f) t k f (q .0)))
+    (ap (λ (r : Reading). r .number) (sym (q .1)) ∙ e))
+
+pub names-kept : NamesKept
+unfolding readProtocol
+names-kept text e =
+    let body = readLines 2 (drop 1 (lines text)) clearedTables in
+    let q = unless-number (openingOf protocolHeader text) body e in
+    let n = named-lines 2 (drop 1 (lines text)) clearedTables named-cleared (ap (λ (r : Reading). r .number) (sym (q .1)) ∙ e) in
+    subst (λ (r : Reading). Named (r .tables)) (sym (q .1)) n

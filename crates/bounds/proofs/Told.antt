@@ -1,0 +1,70 @@
+-- The numbers and lines that checks tell.
+use Prim.Native.Nat.{ℕ, zero, suc, _+_, _-_, _≤_, _<_}
+use mathlib.Core.Path.{_≡_, refl, sym, ap, _∙_, subst}
+use mathlib.Core.Bool.{Bool, true, false, cond}
+use mathlib.Core.List.{List, [], _∷_, dropLast}
+use native.Mathlib.Omega.{arith}
+use lib.ListN.{length, drop, length-drop}
+use lib.Dec.{eqb}
+use Rattle.text.specs.Parts.{split, onto, howMany, lines}
+use Rattle.papers.specs.declared.Refusal.{Refusal}
+use Rattle.papers.specs.Checks.{Check, firstOf}
+use Rattle.papers.specs.Opening.{openingChecks, openingOf}
+use Rattle.papers.proofs.Checks.{first-given, first-passed}
+use Rattle.bounds.specs.Bounds.{Low}
+
+-- Every check of the list tells a number up to 15 and a line up to 49,153.
+abbrev pub AllLow : List Check → Type 0
+AllLow [] = Unit {0}
+AllLow (c ∷ cs) = Low (c .number) (c .line) × AllLow cs
+
+-- and so does the first that is given
+pub first-low : (cs : List Check) → AllLow cs → Low (firstOf cs .number) (firstOf cs .line)
+unfolding firstOf
+first-low [] h = (omega arith, omega arith)
+first-low (c ∷ cs) h = go (c .given) refl (first-low cs (h .1))
+  where
+    go : (t : Bool) → c .given ≡ t → Low (firstOf cs .number) (firstOf cs .line) → Low (firstOf (c ∷ cs) .number) (firstOf (c ∷ cs) .line)
+    go true e k = subst (λ (r : Refusal). Low (r .number) (r .line)) (sym (first-given c cs e)) (h .0)
+    go false e k = subst (λ (r : Refusal). Low (r .number) (r .line)) (sym (first-passed c cs e)) k
+
+-- ---- how many lines there are
+
+pub many-le : (b : ℕ) (l : List ℕ) → howMany b l ≤ length l
+unfolding howMany
+many-le b [] = omega arith
+many-le b (x ∷ l) = go (eqb x b) (many-le b l)
+  where
+    go : (t : Bool) → howMany b l ≤ length l → cond t (suc (howMany b l)) (howMany b l) ≤ suc (length l)
+    go true h = omega arith
+    go false h = omega arith
+
+length-onto : (x : ℕ) (ps : List (List ℕ)) (n : ℕ) → length ps ≡ suc n → length (onto x ps) ≡ suc n
+length-onto x [] n e = absurd (omega (arith, e))
+length-onto x (p ∷ ps) n e = e
+
+pub length-split : (b : ℕ) (l : List ℕ) → length (split b l) ≡ suc (howMany b l)
+unfolding split howMany
+length-split b [] = refl
+length-split b (x ∷ l) = go (eqb x b) (length-split b l)
+  where
+    go : (t : Bool) → length (split b l) ≡ suc (howMany b l)
+        → length (cond t ([] ∷ split b l) (onto x (split b l))) ≡ suc (cond t (suc (howMany b l)) (howMany b l))
+    go true e = ap suc e
+    go false e = length-onto x (split b l) (howMany b l) e
+
+length-dropLast : (ps : List (List ℕ)) → length (dropLast ps) ≡ length ps - 1
+length-dropLast [] = refl
+length-dropLast (p ∷ []) = refl
+length-dropLast (p ∷ (q ∷ ps)) = omega (arith, length-dropLast (q ∷ ps))
+
+pub lines-le : (text : List ℕ) → length (drop 1 (lines text)) ≤ length text - 1
+unfolding lines
+lines-le text = omega (arith, length-drop 1 (dropLast (split 10 text)), length-dropLast (split 10 text), length-split 10 text, many-le 10 text)
+
+-- ---- the opening
+
+pub opening-low : (header text : List ℕ) → length text ≤ 49152 → Low (openingOf header text .number) (openingOf header text .line)
+unfolding openingOf
+opening-low header text h =
+    first-low (openingChecks header text) ((omega arith, omega arith), ((omega arith, omega (arith, many-le 10 text)), ((omega arith, omega arith), tt)))

@@ -1,0 +1,2 @@
+pub mod Warshall
+pub mod Determined

@@ -1,0 +1,4 @@
+pub mod Leaving
+pub mod Opening
+pub mod Starts
+pub mod Determined

@@ -1,0 +1,3 @@
+pub mod JudgeLaws
+pub mod Promises
+pub mod Determined

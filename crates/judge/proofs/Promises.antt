@@ -1,0 +1,156 @@
+-- The promises for texts hold: demand 3 through the calls.
+use Prim.Native.Nat.{ℕ, zero, suc, _+_, _-_, _<_, _≤_}
+use mathlib.Core.Path.{_≡_, refl, sym, ap, _∙_, subst}
+use mathlib.Core.Logic.{_⊎_, inl, inr, ⊎-elim}
+use mathlib.Core.Bool.{true}
+use mathlib.Core.List.{List, [], _∷_, _++_, map}
+use native.Mathlib.Omega.{arith}
+use lib.ListN.{length, getD, take, replicate, List·getD-map}
+use lib.Seq.{length-take-le, getD-take}
+use Rattle.rules.specs.declared.Network.{Network}
+use Rattle.rules.specs.Rules.{MessageNo, NetworkNo, Relations, Mapping, Waits, Fit, Unfit, WaitsCycle}
+use Rattle.rules.specs.Plan.{Height, LeastCount, Printed, Uses, PlanCycle, LongestChain}
+use Rattle.rules.specs.Promises.{Accepted, GoodPlan}
+use Rattle.rules.proofs.Promises.{every-plan, every-printed, one-class, shown-is-real, cycle-is-unfit, determined}
+use Rattle.text.specs.Name.{nameRule, nameText}
+use Rattle.tables.specs.declared.MessageRow.{MessageRow}
+use Rattle.tables.specs.declared.Tables.{Tables}
+use Rattle.tables.specs.Tables.{noMessage, messagesOf}
+use Rattle.tables.specs.Cells.{relationsOfTables}
+use Rattle.protocol.specs.Reading.{readProtocol}
+use Rattle.protocol_laws.specs.Promises.{AcceptedReading}
+use Rattle.protocol_laws.proofs.Accepted.{accepted-kept}
+use Rattle.mapping.specs.declared.Mapped.{Mapped}
+use Rattle.mapping.specs.Reading.{readMapping, accepted, networkNo}
+use Rattle.mapping.specs.Text.{mappingText, Writable}
+use Rattle.mapping_laws.proofs.RoundTrip.{reads-back}
+use Rattle.answers.specs.declared.Answer.{Answer}
+use Rattle.answers.specs.Answers.{Listed}
+use Rattle.judge_listing.specs.JudgeText.{ShownStep, fitText, unfitText}
+use Rattle.verdicts.specs.Verdicts.{mappingOf}
+use Rattle.bounds.specs.Bounds.{Named}
+use Rattle.bounds.proofs.NamesKept.{names-kept}
+use Rattle.plan.specs.Call.{Three, Two, Planned, Call as PlanCall}
+use Rattle.judge.specs.Call.{FitListing, UnfitListing, Judged, Call as JudgeCall}
+use Rattle.judge.specs.Promises.{tablesOf, mapped, JudgedFit, JudgedUnfit, TextUses, ThreeKept, TwoKept, PlansKept}
+
+-- zeros behind change nothing that is read
+zero-at : (n i : ℕ) → _≡_ {A = ℕ} (getD (replicate n 0) i 0) 0
+zero-at zero i = refl
+zero-at (suc n) zero = refl
+zero-at (suc n) (suc i) = zero-at n i
+
+pad-at : (l : List ℕ) (n i : ℕ) → getD (l ++ replicate n 0) i 0 ≡ getD l i 0
+pad-at [] n i = zero-at n i
+pad-at (x ∷ l) n zero = refl
+pad-at (x ∷ l) n (suc i) = pad-at l n i
+
+-- ---- an accepted protocol
+
+module _ (x : List ℕ) (e : readProtocol x .number ≡ 0) where
+  abbrev t : Tables
+  t = readProtocol x .tables
+
+  abbrev p : Relations
+  p = relationsOfTables t
+
+  good : AcceptedReading (readProtocol x)
+  good = accepted-kept x e
+
+  rows : Named t
+  rows = names-kept x e
+
+  few : t .«message_count» ≤ 32
+  few = good .kept .ok .messages
+
+  abbrev ms : List MessageRow
+  ms = messagesOf t
+
+  many : length ms ≡ t .«message_count»
+  many = length-take-le (t .«message_count») (t .messages) (omega (arith, few, rows .long))
+
+  -- ---- judgements
+
+  judged-fit : (y : List ℕ) → mapped x y .number ≡ 0 → Fit p (mappingOf (mapped x y .networks)) → JudgedFit x y
+  judged-fit y a fit old new r c =
+      let j = c .protocol-accepted e .judged a in
+      ⊎-elim (λ (w : FitListing p (mappingOf (mapped x y .networks)) (j .listing)). subst (λ (l : List ℕ). Listed l old new r) (w .is) (j .listed))
+      (λ (w : UnfitListing (t .messages) p (mappingOf (mapped x y .networks)) (j .listing)). absurd (fit (w .unfit))) (j .allowed)
+
+  judged-unfit : (y : List ℕ) → mapped x y .number ≡ 0 → (Fit p (mappingOf (mapped x y .networks)) → ⊥) → JudgedUnfit x y
+  judged-unfit y a no-fit old new r c =
+      let j = c .protocol-accepted e .judged a in
+      ⊎-elim (λ (w : FitListing p (mappingOf (mapped x y .networks)) (j .listing)). absurd (no-fit (w .fit)))
+      (λ (w : UnfitListing (t .messages) p (mappingOf (mapped x y .networks)) (j .listing)). (w .steps, subst (λ (l : List ℕ). Listed l old new r) (w .is) (j .listed))) (j .allowed)
+
+  -- ---- class 2
+
+  two-kept : (listing : List ℕ) → Two (t .messages) p listing → TwoKept x listing
+  two-kept listing w =
+      record {
+        cycle = w .cycle;
+        is = w .is;
+        every-unfit = λ y a. judged-unfit y a (λ fit. fit (cycle-is-unfit p (shown-is-real p .0 (w .cycle) (w .shown)) (mappingOf (mapped x y .networks))));
+      }
+
+  -- ---- class 3
+
+  module _ (ns : List ℕ) (k : ℕ) (long : length ns ≡ t .«message_count») (printed : Printed p (λ m. getD ns m 0)) (least : LeastCount p k) where
+    below : (i : ℕ) → i < length ns → getD ns i 0 < 32
+    below i h = go (every-plan p (good .relations))
+      where
+        go : (WaitsCycle p × (l : List MessageNo) × PlanCycle p l × (length l ≤ p .count)) ⊎ ((¬ WaitsCycle p) × GoodPlan p) → getD ns i 0 < 32
+        go (inl q) = absurd (one-class p (q .1) k (q .2) least)
+        go (inr q) =
+            omega (arith, few, q .1 .networks-small i (omega (arith, h, long)), determined .mapping p (λ m. getD ns m 0) (q .1 .mapping) printed (q .1 .printed) i (omega (arith, h, long)))
+
+    writable : Writable ms ns
+    writable =
+        record {
+          few = omega (arith, few, many);
+          long = long ∙ sym many;
+          named = λ i h. ap (λ (row : MessageRow). nameRule (nameText (row .name))) (getD-take (t .«message_count») (t .messages) i noMessage (omega (arith, h, many))) ∙ rows .names i (omega (arith, h, many));
+          below = below;
+        }
+
+    abbrev text : List ℕ
+    text = mappingText ms ns
+
+    back : mapped x text ≡ accepted ns
+    back = reads-back ms ns writable
+
+    same : (m : MessageNo) → m < t .«message_count» → getD ns m 0 ≡ mappingOf (mapped x text .networks) m
+    same m h =
+        sym (ap (λ (r : Mapped). getD (r .networks) m (networkNo 0) .0) back
+        ∙ ap (λ (n : Network). n .0) (List·getD-map networkNo (ns ++ replicate (32 - length ns) 0) m 0) ∙ pad-at ns (32 - length ns) m)
+
+    printed-text : Printed p (mappingOf (mapped x text .networks))
+    printed-text m h = subst (Height (Waits p) m) (same m h) (printed m h)
+
+    kept : Fit p (mappingOf (mapped x text .networks)) × Uses (p .count) (mappingOf (mapped x text .networks)) k × LongestChain p k
+    kept = every-printed p (good .relations) (mappingOf (mapped x text .networks)) k printed-text least
+
+    fewer : (y : List ℕ) (j : ℕ) → mapped x y .number ≡ 0 → TextUses x y j → j < k → JudgedUnfit x y
+    fewer y j a u h = judged-unfit y a (λ fit. omega (arith, h, least .least (mappingOf (mapped x y .networks)) j fit u))
+
+  three-kept : (listing : List ℕ) → Three ms p listing → ThreeKept x listing
+  three-kept listing w =
+      let ns = w .networks in
+      let k = w .count in
+      let a : mapped x (mappingText ms ns) .number ≡ 0 = ap (λ (r : Mapped). r .number) (back ns k (w .long) (w .printed) (w .least)) in
+      let q = kept ns k (w .long) (w .printed) (w .least) in
+      record {
+        networks = ns;
+        count = k;
+        is = w .is;
+        accepted = a;
+        fit = judged-fit (mappingText ms ns) a (q .0);
+        reached = q .1;
+        fewer-unfit = fewer ns k (w .long) (w .printed) (w .least);
+        chain = q .2;
+      }
+
+pub plans-kept : PlansKept
+plans-kept x old new r c e =
+    let q = c .planned e in
+    (q .listing, q .listed, ⊎-elim (λ (w : Three (messagesOf (tablesOf x)) (relationsOfTables (tablesOf x)) (q .listing)). inl (three-kept x e (q .listing) w)) (λ (w : Two (tablesOf x .messages) (relationsOfTables (tablesOf x)) (q .listing)). inr (two-kept x e (q .listing) w)) (q .allowed))

@@ -1,0 +1,5 @@
+pub mod Places
+pub mod Chains
+pub mod StepLines
+pub mod Determined
+pub mod Longest

@@ -1,0 +1,34 @@
+-- How long a judgement's listing can be.
+use mathlib.Core.Path.{_≡_, refl, sym, ap, _∙_}
+use mathlib.Core.List.{List, [], _∷_, _++_}
+use Prim.Native.Nat.{ℕ, suc, _+_, _*_, _≤_}
+use native.Mathlib.Omega.{arith}
+use lib.ListN.{length, take, getD, length-append, length-take, length-map}
+use Rattle.rules.specs.Plan.{Word, waits, queues}
+use Rattle.tables.specs.declared.MessageRow.{MessageRow}
+use Rattle.tables.specs.Tables.{noMessage}
+use Rattle.plan_listing.specs.PlanText.{nameAt}
+use Rattle.judge_listing.specs.JudgeText.{ShownStep, stepLine, wordText, wordIn, verdictHead, fitText, stepText, stepTexts}
+use Rattle.plan_listing.specs.Lengths.{ShortNames}
+use Rattle.judge_listing.specs.Longest.{FitLength, LongestUnfit}
+use Rattle.judge_listing.proofs.StepLines.{unfit-length}
+
+pub fit-length : FitLength
+unfolding fitText verdictHead
+fit-length = refl
+
+word-short : (w : Word) → length (wordText w) ≤ 6
+word-short waits = omega arith
+word-short queues = omega arith
+
+step-short : (rows : List MessageRow) (s : ShownStep) → ShortNames rows → length (stepText rows s) ≤ 62
+unfolding nameAt stepText stepLine
+step-short rows s h = simp length-append (omega (arith, h (s .from), word-short (s .word), h (s .to)))
+
+steps-short : (rows : List MessageRow) (steps : List ShownStep) → ShortNames rows → length (stepTexts rows steps) ≤ 62 * length steps
+unfolding stepTexts
+steps-short rows [] h = omega arith
+steps-short rows (s ∷ ss) h = omega (arith, length-append (stepText rows s) (stepTexts rows ss), step-short rows s h, steps-short rows ss h)
+
+pub longest-unfit : LongestUnfit
+longest-unfit rows steps h k = omega (arith, unfit-length rows steps, steps-short rows steps h, k)

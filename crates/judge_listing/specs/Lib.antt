@@ -1,0 +1,3 @@
+pub mod JudgeText
+pub mod Steps
+pub mod Longest

@@ -1,0 +1,39 @@
+-- The steps of a closed walk by their places, and a step as the code holds it.
+use Prim.Native.Nat.{ℕ, _+_, _<_, _≤_}
+use mathlib.Core.Bool.{cond}
+use mathlib.Core.List.{List}
+use lib.ListN.{length, getD}
+use lib.Dec.{ltb}
+use Rattle.rules.specs.declared.Message.{Message}
+use Rattle.rules.specs.Rules.{MessageNo}
+use Rattle.rules.specs.Plan.{Word}
+use Rattle.text.specs.Name.{nameText}
+use Rattle.plan_listing.specs.PlanText.{firstMessages}
+use Rattle.judge_listing.specs.declared.Step.{Step}
+use Rattle.judge_listing.specs.JudgeText.{ShownStep, stepsOf, stepLine, wordText, pickWord, wordIn}
+
+-- A closed walk as it is given: 1 to 32 messages, each with a row in the tables.
+pub record GivenWalk (length : ℕ) (cycle : List Message) : Type 0 where
+  pub some : 0 < length
+  pub few : length ≤ 32
+  pub messages : (i : ℕ) → i < length → getD (firstMessages length cycle) i 0 < 32
+
+-- The steps of the walk, their words by the rows of waits.
+abbrev pub walkSteps : List ℕ → ℕ → List Message → List ShownStep
+walkSteps waits count cycle = stepsOf (wordIn waits) (firstMessages count cycle)
+
+-- The place after i in a closed walk of n messages: behind the last one stands the first.
+unfoldable pub nextPlace : ℕ → ℕ → ℕ
+nextPlace n i = cond (ltb (i + 1) n) (i + 1) 0
+
+-- The step from one message to another.
+abbrev pub stepOf : (MessageNo → MessageNo → Word) → MessageNo → MessageNo → ShownStep
+stepOf w a b = record { from = a; word = w a b; to = b }
+
+-- The step at place i of the closed walk l.
+unfoldable pub stepAt : (MessageNo → MessageNo → Word) → List MessageNo → ℕ → ShownStep
+stepAt w l i = stepOf w (getD l i 0) (getD l (nextPlace (length l) i) 0)
+
+-- The line of a step that holds its names.
+unfoldable pub lineOf : Step → List ℕ
+lineOf s = stepLine (nameText (s .from)) (wordText (pickWord (s .waits))) (nameText (s .to))

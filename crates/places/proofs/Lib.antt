@@ -1,0 +1,3 @@
+pub mod Named
+pub mod Placed
+pub mod Determined

@@ -1,0 +1,4 @@
+pub mod PlanLaws
+pub mod Determined
+pub mod PlanLongest
+pub mod Printing

@@ -1,0 +1,83 @@
+-- What was found out and written is a plan.
+use Prim.Native.Nat.{ℕ, _<_, _≤_}
+use mathlib.Core.Path.{_≡_, refl, ap, sym, _∙_, subst}
+use mathlib.Core.Logic.{_≢_, inl, inr, _⊎_, ⊎-elim}
+use mathlib.Core.List.{List}
+use native.Mathlib.Omega.{arith}
+use lib.ListN.{take}
+use Rattle.tables.specs.declared.Tables.{Tables}
+use Rattle.tables.specs.Tables.{messagesOf}
+use Rattle.tables.specs.Cells.{relationsOfTables, TablesOk}
+use Rattle.whole.specs.declared.Reading.{Reading}
+use Rattle.protocol.specs.Reading.{readProtocol}
+use Rattle.protocol_laws.proofs.Accepted.{accepted-kept}
+use Rattle.answers.specs.declared.Answer.{Answer}
+use Rattle.answers.specs.Answers.{refusedAt, Listed}
+use Rattle.plan_listing.specs.PlanText.{classThree, classTwo, firstMessages, firstNetworks, MessagesBelow}
+use Rattle.verdicts.specs.declared.Planned.{Planned as Found}
+use Rattle.verdicts.specs.Verdicts.{ClassThree, ClassTwo, PlanIs}
+use Rattle.plan.specs.Call.{Planned, Call}
+
+module _ (t : Tables) (v : Found) (is : PlanIs (relationsOfTables t) v) where
+  -- there is a count only in class 3
+  three : v .count ≢ 0 → ClassThree (relationsOfTables t) v
+  three h = ⊎-elim (λ (w : ClassThree (relationsOfTables t) v). w) (λ (w : ClassTwo (relationsOfTables t) v). absurd (h (w .none))) is
+
+  two : v .count ≡ 0 → ClassTwo (relationsOfTables t) v
+  two h = ⊎-elim (λ (w : ClassThree (relationsOfTables t) v). absurd (omega (arith, h, w .some))) (λ (w : ClassTwo (relationsOfTables t) v). w) is
+
+  pub planned-three : (old new : List ℕ) (r : Answer) → v .count ≢ 0
+      → Listed (classThree (take (t .«message_count») (t .messages)) (firstNetworks (t .«message_count») (v .networks)) (v .count)) old new r
+      → Planned t old new r
+  planned-three old new r h l =
+      let w = three h in
+      record {
+        listing = classThree (take (t .«message_count») (t .messages)) (firstNetworks (t .«message_count») (v .networks)) (v .count);
+        allowed =
+            inl (record {
+              networks = firstNetworks (t .«message_count») (v .networks);
+              count = v .count;
+              long = w .long;
+              printed = w .printed;
+              least = w .least;
+              is = refl;
+            });
+        listed = l;
+      }
+
+  pub planned-two : (old new : List ℕ) (r : Answer) → v .count ≡ 0 → Listed (classTwo (t .messages) (firstMessages (v .length) (v .cycle))) old new r → Planned t old new r
+  planned-two old new r h l =
+      record {
+        listing = classTwo (t .messages) (firstMessages (v .length) (v .cycle));
+        allowed = inr (record { cycle = firstMessages (v .length) (v .cycle); shown = two h .cycle; is = refl });
+        listed = l;
+      }
+
+  -- what the listings ask for
+  pub three-asked : v .count ≢ 0 → v .count ≤ 32
+  three-asked h = three h .few
+
+  pub two-asked : v .count ≡ 0 → (v .length ≤ 32) × MessagesBelow (v .length) (firstMessages (v .length) (v .cycle))
+  two-asked h = (two h .few, two h .messages)
+
+-- ---- the call
+
+module _ (text : List ℕ) (x : Reading) (is : x ≡ readProtocol text) where
+  pub call-refused : x .number ≢ 0 → (old : List ℕ) (r : Answer) → r ≡ refusedAt (x .number) 0 (x .line) → Call text old old r
+  call-refused h old r e =
+      record {
+        refused = λ n. record { answer = e ∙ ap (λ (y : Reading). refusedAt (y .number) 0 (y .line)) is; bytes = refl };
+        planned = λ z. absurd (h (ap (λ (y : Reading). y .number) is ∙ z));
+      }
+
+  pub call-ready : x .number ≡ 0 → TablesOk (x .tables) × (0 < x .tables .«message_count»)
+  call-ready z =
+      let good = accepted-kept text (ap (λ (y : Reading). y .number) (sym is) ∙ z) in
+      subst (λ (y : Reading). TablesOk (y .tables) × (0 < y .tables .«message_count»)) (sym is) (good .kept .ok, good .some)
+
+  pub call-planned : x .number ≡ 0 → (old new : List ℕ) (r : Answer) → Planned (x .tables) old new r → Call text old new r
+  call-planned z old new r p =
+      record {
+        refused = λ n. absurd (n (ap (λ (y : Reading). y .number) (sym is) ∙ z));
+        planned = λ _. subst (λ (y : Reading). Planned (y .tables) old new r) is p;
+      }

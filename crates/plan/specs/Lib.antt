@@ -1,0 +1,4 @@
+pub mod Call
+pub mod Determined
+pub mod Longest
+pub mod Printed

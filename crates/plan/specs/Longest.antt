@@ -1,0 +1,20 @@
+-- "Every program lends room for the longest answer within the limits." How long a plan's listing can be.
+use Prim.Native.Nat.{ℕ, _≤_}
+use mathlib.Core.Path.{_≡_}
+use mathlib.Core.List.{List}
+use lib.ListN.{length}
+use Rattle.protocol.specs.Reading.{readProtocol}
+use Rattle.answers.specs.declared.Answer.{Answer}
+use Rattle.answers.specs.Answers.{Small, Unpacked}
+use Rattle.plan.specs.Call.{PlanListing, Call, Packed}
+
+abbrev pub PlanLength : Type 0
+PlanLength = (text listing : List ℕ) → readProtocol text .number ≡ 0 → PlanListing (readProtocol text .tables) listing → length listing ≤ 1054
+
+-- So every number of an answer has its place in the packed number,
+abbrev pub PlanSmall : Type 0
+PlanSmall = (text old new : List ℕ) (r : Answer) → Call text old new r → Small r
+
+-- and a host reads the answer out of it.
+abbrev pub PlanUnpacked : Type 0
+PlanUnpacked = (text old new : List ℕ) (k : ℕ) (p : Packed text old new k) → Unpacked k (p .answer)

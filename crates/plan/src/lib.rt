@@ -1,0 +1,57 @@
+// The planning call: a protocol text in, a listing out.
+ghost use Prim.Native.Nat.{_<_, _≤_};
+ghost use lib.ListN.{length};
+ghost use Rattle.tables.specs.Cells.{TablesOk};
+ghost use Rattle.plan.specs.Call.{Planned, Call, Packed};
+ghost use Rattle.plan.specs.Printed.{PlanPrinted};
+use answers::Answer;
+use tables::Tables;
+
+// The plan of a protocol's tables, written to the output if there is room for it.
+fn plan_tables(t: Tables, out: &mut [u8]) -> Answer
+    requires { ⌜ TablesOk t × (0 < t .«message_count») ⌝ }
+    ensures { λ r. ⌜ Planned t (now (out .entry)) (now (out .exit)) r ⌝ }
+{
+    let found = verdicts::plan_of(t);
+    let messages = t.messages;
+    if found.count != 0 {
+        let networks = found.networks;
+        return plan_maps::map_listing(messages, t.message_count, networks, found.count, out);
+    }
+    let cycle = found.cycle;
+    plan_cycle::cycle_listing(messages, cycle, found.length, out)
+}
+
+// The plan of a protocol text.
+pub fn plan(text: &[u8], out: &mut [u8]) -> Answer
+    ensures { λ r. ⌜ Call (now (text .entry)) (now (out .entry)) (now (out .exit)) r ⌝ }
+{
+    let r = protocol::read_protocol(text);
+    if r.number != 0 {
+        return answers::refused(r.number, 0, r.line);
+    }
+    let t = r.tables;
+    plan_tables(t, out)
+}
+
+// The plan from a C host: the answer's numbers packed into one.
+#[no_mangle]
+pub extern "C" fn vn_plan_text(text: &[u8], out: &mut [u8]) -> u64
+    ensures { λ r. ⌜ Packed (now (text .entry)) (now (out .entry)) (now (out .exit)) r ⌝ }
+{
+    let a = plan(text, out);
+    answers::packed(a)
+}
+
+// What the planning program prints. There is room for the longest answer within the limits.
+pub fn print_plan(text: &[u8], out: &mut [u8]) -> usize
+    requires { ⌜ 2048 ≤ length (now out) ⌝ }
+    ensures { λ r. ⌜ PlanPrinted (now (text .entry)) (now (out .entry)) (now (out .exit)) r ⌝ }
+{
+    let a = plan(text, out);
+    if a.number == 0 {
+        return a.length;
+    }
+    let line = a.line as u32;
+    answers::put_refused(out, a.number, a.paper, line)
+}

@@ -1,0 +1,4 @@
+pub mod Growing
+pub mod Lines
+pub mod Determined
+pub mod Longest

@@ -1,0 +1,66 @@
+-- The listing of a plan (01-scope.md, "Two listings, whole").
+-- "It prints a header, the class, the least count, then name and network of each message."
+-- "For class 2 a single line follows `class>2`: `cycle` and the names in order, parted by tabs."
+use Prim.Native.Nat.{ℕ, _<_}
+use mathlib.Core.List.{List, [], _∷_, _++_, map}
+use lib.ListN.{getD, take}
+use Rattle.rules.specs.declared.Message.{Message}
+use Rattle.rules.specs.declared.Network.{Network}
+use Rattle.text.specs.Name.{nameText}
+use Rattle.text.specs.Words.{planHeader, classWord, networksWord, cycleWord, tab, newline}
+use Rattle.text.specs.Written.{decimal}
+use Rattle.tables.specs.declared.MessageRow.{MessageRow}
+use Rattle.tables.specs.Tables.{noMessage}
+use Rattle.mapping.specs.Text.{mapFields, mapTexts}
+
+-- The name of message m.
+unfoldable pub nameAt : List MessageRow → ℕ → List ℕ
+nameAt rows m = nameText (getD rows m noMessage .name)
+
+-- A word and a number.
+unfoldable pub numberLine : List ℕ → ℕ → List ℕ
+numberLine word n = ((word ++ tab) ++ decimal n) ++ newline
+
+-- The header and the class.
+unfoldable pub classHead : ℕ → List ℕ
+classHead class = (planHeader ++ newline) ++ numberLine classWord class
+
+-- The line of a message and its network.
+abbrev pub mapText : List ℕ → ℕ → List ℕ
+mapText name n = mapFields name n ++ newline
+
+-- Class 3: the least count, then a line for each message, as a mapping text has it.
+unfoldable pub classThree : List MessageRow → List ℕ → ℕ → List ℕ
+classThree messages networks count = (classHead 3 ++ numberLine networksWord count) ++ mapTexts messages networks
+
+-- Each of these messages' names, behind a tab.
+unfoldable pub namesText : List MessageRow → List ℕ → List ℕ
+namesText rows [] = []
+namesText rows (m ∷ l) = (tab ++ nameAt rows m) ++ namesText rows l
+
+-- `cycle` and the names in order.
+unfoldable pub cycleLine : List MessageRow → List ℕ → List ℕ
+cycleLine rows cycle = (cycleWord ++ namesText rows cycle) ++ newline
+
+-- Class 2: the line of the shown cycle.
+unfoldable pub classTwo : List MessageRow → List ℕ → List ℕ
+classTwo rows cycle = classHead 2 ++ cycleLine rows cycle
+
+-- ---- the numbers that the code keeps in types of their own
+
+abbrev pub messageNo : Message → ℕ
+messageNo m = m .0
+
+abbrev pub networkNo : Network → ℕ
+networkNo n = n .0
+
+-- The first n of these messages, or networks.
+unfoldable pub firstMessages : ℕ → List Message → List ℕ
+firstMessages n l = map messageNo (take n l)
+
+unfoldable pub firstNetworks : ℕ → List Network → List ℕ
+firstNetworks n l = map networkNo (take n l)
+
+-- Each of the first n of these messages has a row.
+abbrev pub MessagesBelow : ℕ → List ℕ → Type 0
+MessagesBelow n l = (i : ℕ) → i < n → getD l i 0 < 32

@@ -1,4 +1,0 @@
-pub mod Tables
-pub mod Waiting
-pub mod Call
-pub mod Plans

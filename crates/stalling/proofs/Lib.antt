@@ -1,0 +1,3 @@
+pub mod AtCell
+pub mod Columns
+pub mod Determined

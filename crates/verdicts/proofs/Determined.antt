@@ -1,0 +1,86 @@
+-- The contracts determine what the functions give back: two results that they allow are equal.
+use Prim.Native.Nat.{ℕ, _-_, _<_}
+use mathlib.Core.Path.{_≡_, refl, sym, ap, ap₂, _∙_}
+use mathlib.Core.Logic.{inl, inr}
+use mathlib.Core.List.{List, [], _∷_, _++_, map}
+use native.Mathlib.Omega.{arith}
+use lib.ListN.{length, getD, take, drop, replicate, take-append-drop}
+use lib.Seq.{ext-getD}
+use Rattle.rules.specs.declared.Message.{Message}
+use Rattle.rules.specs.declared.Network.{Network}
+use Rattle.rules.specs.Rules.{Relations}
+use Rattle.rules.proofs.Promises.{determined, one-class}
+use Rattle.tables.specs.declared.Tables.{Tables}
+use Rattle.tables.specs.Cells.{relationsOfTables}
+use Rattle.tables.specs.Determined.{Determines}
+use Rattle.plan_listing.specs.PlanText.{messageNo, networkNo, firstMessages, firstNetworks}
+use Rattle.verdicts.specs.declared.Planned.{Planned}
+use Rattle.verdicts.specs.Verdicts.{noMessage, noNetwork, MessagesPast, NetworksPast, PlanIs, ClassThree, ClassTwo}
+use Rattle.verdicts.specs.Leaves.{asMessage, asNetwork}
+
+pub messages-of-determined : (bytes : List ℕ) → Determines (λ (r : List Message). r ≡ map asMessage bytes)
+messages-of-determined bytes r s p q = p ∙ sym q
+
+-- ---- arrays whose first numbers are told, and which are cleared past them
+
+as-messages : (l : List Message) → map asMessage (map messageNo l) ≡ l
+as-messages [] = refl
+as-messages (m ∷ l) = ap (λ (k : List Message). m ∷ k) (as-messages l)
+
+as-networks : (l : List Network) → map asNetwork (map networkNo l) ≡ l
+as-networks [] = refl
+as-networks (n ∷ l) = ap (λ (k : List Network). n ∷ k) (as-networks l)
+
+pub messages-one : (j k : ℕ) (l m : List Message) → j ≡ k → firstMessages j l ≡ firstMessages k m → MessagesPast j l → MessagesPast k m → l ≡ m
+unfolding firstMessages
+messages-one j k l m e f p q =
+    sym (take-append-drop j l)
+    ∙ ap₂ _++_ (sym (as-messages (take j l)) ∙ ap (map asMessage) f ∙ as-messages (take k m)) (p ∙ ap (λ (i : ℕ). replicate (32 - i) noMessage) e ∙ sym q)
+    ∙ take-append-drop k m
+
+networks-one : (n : ℕ) (l m : List Network) → firstNetworks n l ≡ firstNetworks n m → NetworksPast n l → NetworksPast n m → l ≡ m
+unfolding firstNetworks
+networks-one n l m f p q =
+    sym (take-append-drop n l)
+    ∙ ap₂ _++_ (sym (as-networks (take n l)) ∙ ap (map asNetwork) f ∙ as-networks (take n m)) (p ∙ sym q)
+    ∙ take-append-drop n m
+
+-- ---- a plan
+
+same-plan : (r s : Planned) → r .count ≡ s .count → r .networks ≡ s .networks → r .length ≡ s .length → r .cycle ≡ s .cycle → r ≡ s
+same-plan r s a b c d =
+    let t : _≡_ {A = Planned}
+    (record { count = r .count; networks = r .networks; length = r .length; cycle = r .cycle })
+    (record { count = s .count; networks = s .networks; length = s .length; cycle = s .cycle }) = cc
+    in t
+
+module _ (p : Relations) (r s : Planned) where
+  three-one : ClassThree p r → ClassThree p s → r ≡ s
+  three-one f g =
+      same-plan r s (determined .least-count p (r .count) (s .count) (f .least) (g .least))
+      (networks-one (p .count) (r .networks) (s .networks) first (f .networks-past) (g .networks-past)) (f .no-length ∙ sym (g .no-length)) (f .no-cycle ∙ sym (g .no-cycle))
+    where
+      first : firstNetworks (p .count) (r .networks) ≡ firstNetworks (p .count) (s .networks)
+      first =
+          ext-getD 0 (firstNetworks (p .count) (r .networks)) (firstNetworks (p .count) (s .networks)) (f .long ∙ sym (g .long))
+          (λ i h. determined .mapping p (λ m. getD (firstNetworks (p .count) (r .networks)) m 0) (λ m. getD (firstNetworks (p .count) (s .networks)) m 0) (f .printed) (g .printed) i (omega (arith, f .long)))
+
+  two-one : ClassTwo p r → ClassTwo p s → r ≡ s
+  two-one f g =
+      same-plan r s (f .none ∙ sym (g .none)) (f .no-networks ∙ sym (g .no-networks)) same
+      (messages-one (r .length) (s .length) (r .cycle) (s .cycle) same first (f .cycle-past) (g .cycle-past))
+    where
+      first : firstMessages (r .length) (r .cycle) ≡ firstMessages (s .length) (s .cycle)
+      first = determined .plan-cycle p (firstMessages (r .length) (r .cycle)) (firstMessages (s .length) (s .cycle)) (f .cycle) (g .cycle)
+
+      same : r .length ≡ s .length
+      same = sym (f .long) ∙ ap length first ∙ g .long
+
+pub plan-one : (p : Relations) → Determines (PlanIs p)
+plan-one p r s (inl f) (inl g) = three-one p r s f g
+plan-one p r s (inl f) (inr g) = absurd (one-class p (firstMessages (s .length) (s .cycle)) (r .count) (g .cycle) (f .least))
+plan-one p r s (inr f) (inl g) = absurd (one-class p (firstMessages (r .length) (r .cycle)) (s .count) (f .cycle) (g .least))
+plan-one p r s (inr f) (inr g) = two-one p r s f g
+
+pub plan-of-determined : (t : Tables) → Determines (PlanIs (relationsOfTables t))
+plan-of-determined t = plan-one (relationsOfTables t)

@@ -1,0 +1,49 @@
+-- `verdicts::ranked` meets its contract.
+use Prim.Native.Nat.{_-_}
+use native.Mathlib.Omega.{arith}
+use borrow.Author.Needs.{needs}
+use Rattle.verdicts.specs.Leaves.{asNetwork}
+use Rattle.verdicts.proofs.Turning.{Turned, turned-none, turned-more, turned-all, class-three-made}
+use Rattle.verdicts.proofs.ranked.Statement.{statement}
+use Rattle.verdicts.proofs.ranked.Tie as tie
+
+abbrev Inv-loop : tie.InvT-loop
+Inv-loop count bytes networks₀ i₀ networks i = Turned asNetwork bytes i networks
+
+abbrev μ-loop : tie.MeasureT-loop
+μ-loop count bytes networks₀ i₀ networks i = 32 - i
+
+loop-holds : tie.Need-loop-holds Inv-loop μ-loop
+loop-holds c = turned-none asNetwork (c .args .t2) _ (search needs)
+
+array-read-height : tie.Need-array-read-height Inv-loop μ-loop
+array-read-height c = omega arith
+
+array-set-from-networks : tie.Need-array-set-from-networks Inv-loop μ-loop
+array-set-from-networks c = omega arith
+
+add-i : tie.Need-add-i Inv-loop μ-loop
+add-i c = omega arith
+
+loop-less : tie.Need-loop-less Inv-loop μ-loop
+loop-less c = omega arith
+
+loop-again : tie.Need-loop-again Inv-loop μ-loop
+loop-again c = turned-more asNetwork (c .before .before .args .t2) (c .before .loop .i) (c .before .loop .networks) (omega arith) (c .before .loop .inv)
+
+returns : tie.Need-returns Inv-loop μ-loop
+returns c = class-three-made (c .before .before .args .count) (c .before .before .args .t2) (c .before .loop .networks) (turned-all asNetwork (c .before .before .args .t2) (c .before .loop .i) (c .before .loop .networks) (omega arith) (c .before .loop .inv))
+
+pub ranked-spec : {M : Type 1} → statement M
+ranked-spec =
+    tie.close
+    (tie.spec
+    Inv-loop
+    μ-loop
+    loop-holds
+    array-read-height
+    array-set-from-networks
+    add-i
+    loop-less
+    loop-again
+    returns)

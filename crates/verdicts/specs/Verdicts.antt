@@ -1,0 +1,84 @@
+-- What is found out about a protocol's tables: a plan, and the judgement of a mapping.
+use Prim.Native.Nat.{ℕ, _-_, _<_, _≤_}
+use mathlib.Core.Path.{_≡_}
+use mathlib.Core.Logic.{_⊎_, _↔_}
+use mathlib.Core.List.{List}
+use lib.ListN.{length, getD, drop, replicate}
+use Rattle.rules.specs.declared.Message.{Message}
+use Rattle.rules.specs.declared.Network.{Network}
+use Rattle.rules.specs.Rules.{MessageNo, Relations, Mapping, Waits, Fit}
+use Rattle.rules.specs.Plan.{LeastCount, Printed, PlanCycle, JudgeCycle}
+use Rattle.rows.specs.Rows.{Bit}
+pub use Rattle.steps.specs.Steps.{mappingOf}
+use Rattle.plan_listing.specs.PlanText.{firstMessages, firstNetworks}
+use Rattle.verdicts.specs.declared.Planned.{Planned}
+use Rattle.verdicts.specs.declared.Judged.{Judged}
+
+-- ---- the rows of waits
+
+-- Bit c of row b says that b waits for c, by rule 4. No other bit is set, and what has no row waits for nothing.
+abbrev pub WaitsOf : Relations → List ℕ → Type 0
+WaitsOf p rows = (b c : MessageNo) → Bit (getD rows b 0) c ↔ Waits p b c
+
+-- ---- what is past a count
+
+abbrev pub noMessage : Message
+noMessage = record { 0 = 0 }
+
+abbrev pub noNetwork : Network
+noNetwork = record { 0 = 0 }
+
+-- The messages from place n on are cleared.
+abbrev pub MessagesPast : ℕ → List Message → Type 0
+MessagesPast n l = drop n l ≡ replicate (32 - n) noMessage
+
+-- The networks from place n on are cleared.
+abbrev pub NetworksPast : ℕ → List Network → Type 0
+NetworksPast n l = drop n l ≡ replicate (32 - n) noNetwork
+
+-- ---- a plan
+
+-- Class 3: the least count, and the printed mapping. There is no cycle.
+pub record ClassThree (p : Relations) (r : Planned) : Type 0 where
+  pub some : 0 < r .count
+  pub few : r .count ≤ 32
+  pub long : length (firstNetworks (p .count) (r .networks)) ≡ p .count
+  pub printed : Printed p (λ m. getD (firstNetworks (p .count) (r .networks)) m 0)
+  pub least : LeastCount p (r .count)
+  pub networks-past : NetworksPast (p .count) (r .networks)
+  pub no-length : r .length ≡ 0
+  pub no-cycle : MessagesPast 0 (r .cycle)
+
+-- Class 2: the shown cycle of waits steps. There are no networks.
+pub record ClassTwo (p : Relations) (r : Planned) : Type 0 where
+  pub none : r .count ≡ 0
+  pub few : r .length ≤ 32
+  pub long : length (firstMessages (r .length) (r .cycle)) ≡ r .length
+  pub messages : (i : ℕ) → i < r .length → getD (firstMessages (r .length) (r .cycle)) i 0 < 32
+  pub cycle : PlanCycle p (firstMessages (r .length) (r .cycle))
+  pub cycle-past : MessagesPast (r .length) (r .cycle)
+  pub no-networks : NetworksPast 0 (r .networks)
+
+abbrev pub PlanIs : Relations → Planned → Type 0
+PlanIs p r = ClassThree p r ⊎ ClassTwo p r
+
+-- ---- a judgement
+
+-- Unfit, with the shown cycle.
+pub record Unfitting (p : Relations) (φ : Mapping) (r : Judged) : Type 0 where
+  pub some : 0 < r .length
+  pub few : r .length ≤ 32
+  pub long : length (firstMessages (r .length) (r .cycle)) ≡ r .length
+  pub messages : (i : ℕ) → i < r .length → getD (firstMessages (r .length) (r .cycle)) i 0 < 32
+  pub cycle : JudgeCycle p φ (firstMessages (r .length) (r .cycle))
+  pub cycle-past : MessagesPast (r .length) (r .cycle)
+
+-- Fit. There is no cycle.
+pub record Fitting (p : Relations) (φ : Mapping) (r : Judged) : Type 0 where
+  pub none : r .length ≡ 0
+  pub fit : Fit p φ
+  pub no-cycle : MessagesPast 0 (r .cycle)
+
+pub record JudgedIs (p : Relations) (φ : Mapping) (r : Judged) : Type 0 where
+  pub verdict : Fitting p φ r ⊎ Unfitting p φ r
+  pub waits : WaitsOf p (r .waits)

@@ -1,0 +1,86 @@
+-- `waits::spread` meets its contract. Assumes nothing.
+use native.Mathlib.Omega.{arith}
+use native.Mathlib.Nat.{pos-of-ne-zero}
+use borrow.Author.Needs.{needs}
+use Rattle.waits.proofs.Waiting.{SpreadInv, spread-start, spread-step, spread-end, spread-below}
+use Rattle.waits.proofs.spread.Statement.{statement}
+use Rattle.waits.proofs.spread.Tie as tie
+
+abbrev Inv-loop : tie.InvT-loop
+Inv-loop row set waits₀ left₀ waits left = SpreadInv row set waits₀ waits left
+
+abbrev μ-loop : tie.MeasureT-loop
+μ-loop row set waits₀ left₀ waits left = left
+
+loop-holds : tie.Need-loop-holds Inv-loop μ-loop
+loop-holds c = let a = c .before .args in spread-start (a .row) (a .set) (a .waits .now) (c .before .fits .set .fits)
+
+lowest-requires : tie.Need-lowest-requires Inv-loop μ-loop
+lowest-requires c κs = pos-of-ne-zero (c .loop-test .taken)
+
+mul-join : tie.Need-mul-join Inv-loop μ-loop
+mul-join c =
+    let l = c .before .before .loop in
+    let s = c .before .before .before .before in
+    omega (arith, spread-below (s .args .row) (s .args .set) (s .args .waits .now) (l .waits) (l .left) (c .lowest .result) (s .pre) (c .lowest .ensures) (l .inv))
+
+slice-read-join : tie.Need-slice-read-join Inv-loop μ-loop
+slice-read-join c =
+    let l = c .before .before .before .loop in
+    let s = c .before .before .before .before .before in
+    spread-below (s .args .row) (s .args .set) (s .args .waits .now) (l .waits) (l .left) (c .before .lowest .result) (s .pre) (c .before .lowest .ensures) (l .inv)
+
+join-requires : tie.Need-join-requires Inv-loop μ-loop
+join-requires c κs = search needs
+
+mul-waits : tie.Need-mul-waits Inv-loop μ-loop
+mul-waits c =
+    let l = c .before .before .before .before .loop in
+    let s = c .before .before .before .before .before .before in
+    omega (arith, spread-below (s .args .row) (s .args .set) (s .args .waits .now) (l .waits) (l .left) (c .before .before .lowest .result) (s .pre) (c .before .before .lowest .ensures) (l .inv))
+
+slice-write-waits : tie.Need-slice-write-waits Inv-loop μ-loop
+slice-write-waits c =
+    let l = c .before .before .before .before .loop in
+    let s = c .before .before .before .before .before .before in
+    spread-below (s .args .row) (s .args .set) (s .args .waits .now) (l .waits) (l .left) (c .before .before .lowest .result) (s .pre) (c .before .before .lowest .ensures) (l .inv)
+
+without-requires : tie.Need-without-requires Inv-loop μ-loop
+without-requires c κs = let l = c .before .before .lowest .ensures in (l .below, l .bit)
+
+loop-less : tie.Need-loop-less Inv-loop μ-loop
+loop-less c = c .without .ensures .less
+
+loop-again : tie.Need-loop-again Inv-loop μ-loop
+loop-again c =
+    let l = c .before .before .before .before .before .loop in
+    let s = c .before .before .before .before .before .before .before in
+    spread-step (s .args .row) (s .args .set) (s .args .waits .now) (l .waits) (l .left) (c .before .before .before .lowest .result) (c .before .join .result) (c .without .result) (s .pre) (c .before .before .before .lowest .ensures) (c .before .join .ensures) (c .without .ensures) (l .inv)
+
+same-length : tie.Need-same-length Inv-loop μ-loop
+same-length c = c .before .loop .inv .long
+
+returns : tie.Need-returns Inv-loop μ-loop
+returns c =
+    let l = c .before .loop in
+    let a = c .before .before .before .args in
+    spread-end (a .row) (a .set) (a .waits .now) (l .waits) (l .left) (c .loop-test .left) (l .inv)
+
+pub spread-spec : {M : Type 1} → statement M
+spread-spec =
+    tie.close
+    (tie.spec
+    Inv-loop
+    μ-loop
+    loop-holds
+    lowest-requires
+    mul-join
+    slice-read-join
+    join-requires
+    mul-waits
+    slice-write-waits
+    without-requires
+    loop-less
+    loop-again
+    same-length
+    returns)

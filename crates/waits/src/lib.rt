@@ -1,0 +1,68 @@
+// The rows of waits by rule 4, and the number of waits pairs.
+ghost use Prim.Native.Nat.{ℕ, _<_, _≤_};
+ghost use lib.ListN.{length};
+ghost use Rattle.rows.specs.Rows.{Bit};
+ghost use Rattle.rows.specs.Closure.{Closure};
+ghost use Rattle.waits.specs.Waiting.{Tidy, Spread, Cleared, Gathered, WaitsRows, RowPairs};
+
+// Each row whose place is in the set takes in the row. The next place is found by trailing zeros.
+fn spread(row: u32, set: u32, waits: &mut [u32])
+    requires { ⌜ ((b : ℕ) → Bit set b → b < length (now waits)) ⌝ }
+    ensures { λ _. ⌜ Spread row set (now (waits .entry)) (now (waits .exit)) ⌝ }
+{
+    let mut left: u32 = set;
+    while left != 0 {
+        let b = rows::lowest(left);
+        waits[b] = rows::join(waits[b], row);
+        left = rows::without(left, b);
+    }
+}
+
+// Clears the first n rows.
+fn clear(rows: &mut [u32], n: usize)
+    requires { ⌜ (n ≤ 32) × (n ≤ length (now rows)) ⌝ }
+    ensures { λ _. ⌜ Cleared n (now (rows .entry)) (now (rows .exit)) ⌝ }
+{
+    let mut i: usize = 0;
+    while i < n {
+        rows[i] = 0;
+        i += 1;
+    }
+}
+
+// Row b becomes the union of the closed rows of all a that stall b.
+fn gather(closed: &[u32], stalls: &[u32], n: usize, waits: &mut [u32])
+    requires { ⌜ (n ≤ 32) × (n ≤ length (now closed)) × (n ≤ length (now stalls)) × (n ≤ length (now waits)) × Tidy n (now stalls) ⌝ }
+    ensures { λ _. ⌜ Gathered n (now (closed .entry)) (now (stalls .entry)) (now (waits .entry)) (now (waits .exit)) ⌝ }
+{
+    clear(waits, n);
+    let mut a: usize = 0;
+    while a < n {
+        spread(closed[a], stalls[a], waits);
+        a += 1;
+    }
+}
+
+// The rows of waits, by rule 4. The rows of causes are closed on the way.
+pub fn waits(causes: &mut [u32], stalls: &[u32], n: usize, waits: &mut [u32])
+    requires { ⌜ (n ≤ 32) × (n ≤ length (now causes)) × (n ≤ length (now stalls)) × (n ≤ length (now waits)) × Tidy n (now causes) × Tidy n (now stalls) ⌝ }
+    ensures { λ _. ⌜ Closure n (now (causes .entry)) (now (causes .exit)) ⌝ }
+    ensures { λ _. ⌜ WaitsRows n (now (causes .entry)) (now (stalls .entry)) (now (waits .entry)) (now (waits .exit)) ⌝ }
+{
+    closure::closure(causes, n);
+    gather(causes, stalls, n, waits);
+}
+
+// The number of pairs of the first n rows: ones counted over each row.
+pub fn pairs(rows: &[u32], n: usize) -> usize
+    requires { ⌜ (n ≤ 32) × (n ≤ length (now rows)) × Tidy n (now rows) ⌝ }
+    ensures { λ r. ⌜ RowPairs n (now (rows .entry)) r ⌝ }
+{
+    let mut sum: usize = 0;
+    let mut i: usize = 0;
+    while i < n {
+        sum += rows::ones(rows[i]) as usize;
+        i += 1;
+    }
+    sum
+}

@@ -1,0 +1,90 @@
+//! Random pairs of a protocol text and a mapping text, whole and damaged.
+//! Most are small, so that very many can be read; some stand at the limits.
+
+#![allow(dead_code)]
+
+use crate::limits;
+use crate::random::{self, Random};
+use crate::second::Network;
+
+#[derive(Clone)]
+pub struct Pair {
+    pub protocol: Vec<u8>,
+    pub mapping: Vec<u8>,
+}
+
+/// Makes pairs. A whole pair is taken a few times, damaged in other ways.
+pub struct Maker {
+    random: Random,
+    whole: Pair,
+    /// How often the whole pair is taken still.
+    left: usize,
+    others_mapping: Vec<u8>,
+}
+
+impl Maker {
+    pub fn new(seed: u64) -> Maker {
+        let whole = Pair { protocol: Vec::new(), mapping: Vec::new() };
+        Maker { random: Random::new(seed), whole, left: 0, others_mapping: Vec::new() }
+    }
+
+    /// Bytes, fields and lines are changed, dropped, doubled, swapped and cut,
+    /// in the protocol, in the mapping, in both or in none. Some mappings are
+    /// new, and some those of another protocol.
+    pub fn pair(&mut self) -> Pair {
+        if self.left == 0 {
+            self.others_mapping = std::mem::take(&mut self.whole.mapping);
+            self.whole = whole_pair(&mut self.random);
+            self.left = 4;
+        }
+        self.left -= 1;
+        let random = &mut self.random;
+        let mut pair = self.whole.clone();
+        match random.below(16) {
+            0..=4 => pair.protocol = random::damage(random, &pair.protocol),
+            5..=7 => pair.mapping = random::damage(random, &pair.mapping),
+            8 => {
+                pair.protocol = random::damage(random, &pair.protocol);
+                pair.mapping = random::damage(random, &pair.mapping);
+            }
+            9 => pair.mapping = self.others_mapping.clone(),
+            _ => pair.mapping = random::mapping_text(random, &pair.protocol),
+        }
+        pair
+    }
+
+    /// For what belongs to a pair, such as the room that is lent.
+    pub fn random(&mut self) -> &mut Random {
+        &mut self.random
+    }
+}
+
+fn whole_pair(random: &mut Random) -> Pair {
+    if random.chance(1, 1_000) {
+        return pair_at_the_limits(random);
+    }
+    let protocol = if random.chance(1, 100) {
+        random::protocol_text(random)
+    } else {
+        random::small_protocol_text(random)
+    };
+    let mapping = random::mapping_text(random, &protocol);
+    Pair { protocol, mapping }
+}
+
+/// All limits at once, the longest listings, and a byte past the most.
+fn pair_at_the_limits(random: &mut Random) -> Pair {
+    let networks: Vec<Network> = (0..32).map(|_| Network(random.below(32))).collect();
+    let mapping = limits::mapping_with(&networks);
+    let (protocol, mapping) = match random.below(5) {
+        0 => (limits::full(), mapping),
+        1 => (limits::longest_plan(), mapping),
+        2 => (limits::longest_cycle(), mapping),
+        3 => limits::longest_unfit(),
+        _ => {
+            let bytes = random.between(49_152, 49_153);
+            (limits::longest_plan(), limits::long_mapping(bytes))
+        }
+    };
+    Pair { protocol, mapping }
+}

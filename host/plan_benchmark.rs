@@ -1,0 +1,184 @@
+//! How fast vn_plan_text and vn_judge_texts are, beside the second program's
+//! plan and judge, on texts at the limits, and how much stack they take.
+//!
+//!   LIBS=judge host/build run plan_benchmark
+//!
+//! Both get the same texts in the same run, in turn, and both are optimised
+//! code for x86-64. Figures are medians of several rounds, of the thread's own
+//! time. Under an emulator only the ratios say something. host/vn_benchmark
+//! measures the command.
+
+#![allow(dead_code)]
+
+mod limits;
+mod measure;
+mod second;
+mod zeveltoren_texts;
+
+use measure::{median, thread_time};
+use second::Network;
+
+/// What we aim at: this many times the second program, and so many bytes.
+const MOST_RATIO: f64 = 4.0;
+const MOST_STACK: usize = 262_144;
+
+const ROUNDS: usize = 15;
+const TIMES: usize = 4;
+
+/// What is measured: a plan, or with a mapping a judgement.
+pub struct Task {
+    name: &'static str,
+    protocol: Vec<u8>,
+    mapping: Option<Vec<u8>>,
+}
+
+fn tasks() -> Vec<Task> {
+    let task = |name, protocol, mapping| Task { name, protocol, mapping };
+    let each_its_own: Vec<Network> = (0..32).map(Network).collect();
+    let two: Vec<Network> = (0..32).map(|message| Network(message / 16)).collect();
+    let (unfit, hung) = limits::longest_unfit();
+    vec![
+        task("plan, all limits", limits::full(), None),
+        task("judge, all limits, 32 networks", limits::full(), Some(limits::mapping_with(&each_its_own))),
+        task("judge, all limits, 2 networks", limits::full(), Some(limits::mapping_with(&two))),
+        task("plan, 32 networks", limits::longest_plan(), None),
+        task("plan, cycle of 32", limits::longest_cycle(), None),
+        task("judge, fit", limits::longest_plan(), Some(limits::mapping_with(&each_its_own))),
+        task("judge, 32 steps", unfit, Some(hung)),
+    ]
+}
+
+type Variant = fn(&Task, &mut [u8]) -> u64;
+
+fn library(task: &Task, out: &mut [u8]) -> u64 {
+    match &task.mapping {
+        None => zeveltoren_texts::plan_packed(&task.protocol, out),
+        Some(mapping) => zeveltoren_texts::judge_packed(&task.protocol, mapping, out),
+    }
+}
+
+fn plain(task: &Task, out: &mut [u8]) -> u64 {
+    let answer = match &task.mapping {
+        None => second::plan_with_room(&task.protocol, out.len()),
+        Some(mapping) => second::judge_with_room(&task.protocol, mapping, out.len()),
+    };
+    out[..answer.bytes.len()].copy_from_slice(&answer.bytes);
+    answer.packed()
+}
+
+/// Microseconds a call. The sum keeps the compiler from leaving it out.
+fn time(variant: Variant, task: &Task) -> (f64, u64) {
+    let mut out = [0; zeveltoren_texts::LONGEST_LISTING];
+    let mut sum = 0_u64;
+    let start = thread_time();
+    for _ in 0..TIMES {
+        sum = sum.wrapping_add(variant(task, &mut out)).wrapping_add(u64::from(out[0]));
+    }
+    ((thread_time() - start) as f64 / TIMES as f64 / 1000.0, sum)
+}
+
+/// Library, second program, and the ratio.
+fn measured(task: &Task) -> [f64; 3] {
+    let mut rounds: Vec<[f64; 3]> = Vec::new();
+    for _ in 0..ROUNDS {
+        let (ours, sum) = time(library, task);
+        let (theirs, same_sum) = time(plain, task);
+        assert_eq!(sum, same_sum, "both give the same answer");
+        rounds.push([ours, theirs, ours / theirs]);
+    }
+    [0, 1, 2].map(|column| median(rounds.iter().map(|round| round[column]).collect()))
+}
+
+#[cfg(target_arch = "x86_64")]
+mod stack {
+    use crate::Task;
+    use std::arch::asm;
+
+    extern "C" {
+        fn vn_plan_text(text: *const u8, text_length: usize, out: *mut u8, out_length: usize) -> u64;
+
+        fn vn_judge_texts(
+            protocol: *const u8,
+            protocol_length: usize,
+            mapping: *const u8,
+            mapping_length: usize,
+            out: *mut u8,
+            out_length: usize,
+        ) -> u64;
+    }
+
+    const PAINT: u64 = 0xa5c3_96e1_78d2_b4f0;
+    const WORDS: usize = 262_144;
+
+    /// How many bytes below the caller's frame a call writes to: it runs on a
+    /// painted stack of its own.
+    pub fn used(task: &Task) -> usize {
+        let mut painted = vec![PAINT; WORDS];
+        let mut out = [0; crate::zeveltoren_texts::LONGEST_LISTING];
+        let (text, length) = (task.protocol.as_ptr() as usize, task.protocol.len());
+        let (lent, room) = (out.as_mut_ptr() as usize, out.len());
+        let top = painted.as_mut_ptr_range().end as usize & !15;
+        match &task.mapping {
+            None => {
+                let words = [text, length, lent, room, 0, 0];
+                unsafe { call_on(top, vn_plan_text as usize, words) };
+            }
+            Some(mapping) => {
+                let words = [text, length, mapping.as_ptr() as usize, mapping.len(), lent, room];
+                unsafe { call_on(top, vn_judge_texts as usize, words) };
+            }
+        }
+        let untouched = painted.iter().take_while(|word| **word == PAINT).count();
+        top - (painted.as_ptr() as usize + 8 * untouched)
+    }
+
+    /// The six registers that carry what a call gets.
+    unsafe fn call_on(top: usize, function: usize, words: [usize; 6]) {
+        asm!(
+            "mov r12, rsp",
+            "mov rsp, r13",
+            "call r15",
+            "mov rsp, r12",
+            in("rdi") words[0],
+            in("rsi") words[1],
+            in("rdx") words[2],
+            in("rcx") words[3],
+            in("r8") words[4],
+            in("r9") words[5],
+            out("r12") _,
+            in("r13") top,
+            in("r15") function,
+            clobber_abi("C"),
+        );
+    }
+}
+
+#[cfg(not(target_arch = "x86_64"))]
+mod stack {
+    pub fn used(_task: &crate::Task) -> usize {
+        0
+    }
+}
+
+fn kept(kept: bool) -> &'static str {
+    if kept {
+        "kept"
+    } else {
+        "MISSED"
+    }
+}
+
+fn main() {
+    println!("microseconds a call, median of {} rounds; bytes of stack", ROUNDS);
+    println!("{:<32} {:>6} {:>8} {:>8} {:>6} {:>8}", "", "bytes", "library", "second", "ratio", "stack");
+    let (mut highest, mut most_stack) = (0.0_f64, 0);
+    for task in tasks() {
+        let ([ours, theirs, ratio], stack) = (measured(&task), stack::used(&task));
+        let (name, bytes) = (task.name, task.protocol.len());
+        println!("{:<32} {:>6} {:>8.0} {:>8.0} {:>6.2} {:>8}", name, bytes, ours, theirs, ratio, stack);
+        highest = highest.max(ratio);
+        most_stack = most_stack.max(stack);
+    }
+    println!("at most {} times the second program: {} (highest {:.2})", MOST_RATIO, kept(highest <= MOST_RATIO), highest);
+    println!("at most {} bytes of stack: {} (most {})", MOST_STACK, kept(most_stack <= MOST_STACK), most_stack);
+}

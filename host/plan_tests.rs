@@ -1,0 +1,340 @@
+//! Tests of vn_plan_text and vn_judge_texts: the listings of the paper, each
+//! refusal on both sides of its limit, the room, and the real protocols of
+//! examples/. Every answer is compared as a packed number and byte by byte,
+//! with what stands around it. host/pairs.rs has the random texts.
+
+mod case_texts;
+mod lent;
+mod limits;
+mod random;
+mod second;
+mod zeveltoren_texts;
+
+use second::{Listing, Network};
+use std::collections::BTreeSet;
+use std::fs;
+use zeveltoren_texts::{Paper, Refusal, LONGEST_LISTING};
+
+/// What host/case_texts.rs makes: a protocol alone, or with a mapping.
+pub enum Item {
+    Protocol(Vec<u8>),
+    Judge(Vec<u8>, Vec<u8>),
+}
+
+// ---------------------------------------------------------------------
+// Helpers
+// ---------------------------------------------------------------------
+
+/// A text as the paper prints it: `>` stands for a tab.
+fn tabbed(lines: &[&str]) -> Vec<u8> {
+    lines.iter().map(|line| format!("{}\n", line)).collect::<String>().replace('>', "\t").into()
+}
+
+/// The protocol of the paper that is called Bell.
+fn bell() -> Vec<u8> {
+    fs::read("examples/bell.tsv").expect("Bell is among the examples")
+}
+
+fn bell_and(lines: &[&str]) -> Vec<u8> {
+    [bell(), tabbed(lines)].concat()
+}
+
+fn bell_mapping(ask: u8, pass: u8, give: u8, done: u8) -> Vec<u8> {
+    let lines = [("Ask", ask), ("Pass", pass), ("Give", give), ("Done", done)];
+    let lines: Vec<String> = lines.iter().map(|(name, to)| format!("map>{}>{}", name, to)).collect();
+    let mut text = vec!["vn-mapping>1"];
+    text.extend(lines.iter().map(|line| line.as_str()));
+    tabbed(&text)
+}
+
+fn planned(text: &[u8]) -> Result<Listing, Refusal> {
+    let mut out = vec![0; LONGEST_LISTING];
+    zeveltoren_texts::plan(text, &mut out).map(|length| out[..length].to_vec())
+}
+
+fn judged(protocol: &[u8], mapping: &[u8]) -> Result<Listing, Refusal> {
+    let mut out = vec![0; LONGEST_LISTING];
+    zeveltoren_texts::judge(protocol, mapping, &mut out).map(|length| out[..length].to_vec())
+}
+
+fn of_protocol(number: u8, line: usize) -> Result<Listing, Refusal> {
+    Err(Refusal::Text { number, paper: Paper::Protocol, line })
+}
+
+fn of_mapping(number: u8, line: usize) -> Result<Listing, Refusal> {
+    Err(Refusal::Text { number, paper: Paper::Mapping, line })
+}
+
+/// A plan with this much room, against the second program.
+fn compare_plan(text: &[u8], room: usize) {
+    let wanted = lent::wanted_with(&second::plan(text), room);
+    assert_eq!(lent::given_plan(text, room), wanted, "{}", String::from_utf8_lossy(text));
+}
+
+fn compare_judgement(protocol: &[u8], mapping: &[u8], room: usize) {
+    let wanted = lent::wanted_with(&second::judge(protocol, mapping), room);
+    let given = lent::given_judgement(protocol, mapping, room);
+    assert_eq!(given, wanted, "{}", String::from_utf8_lossy(&[protocol, mapping].concat()));
+}
+
+// ---------------------------------------------------------------------
+// The listings of the paper, and the real protocols
+// ---------------------------------------------------------------------
+
+#[test]
+fn listings_of_the_paper() {
+    let plan = tabbed(&[
+        "vn-plan>1", "class>3", "networks>2", "map>Ask>1", "map>Pass>0", "map>Give>0", "map>Done>0",
+    ]);
+    assert_eq!(planned(&bell()), Ok(plan));
+    let hung = bell_and(&["cell>cache>ID>Pass>stall"]);
+    assert_eq!(planned(&hung), Ok(tabbed(&["vn-plan>1", "class>2", "cycle>Pass"])));
+}
+
+#[test]
+fn judgements_of_the_paper() {
+    let fit = tabbed(&["vn-judge>1", "fit"]);
+    let pass = tabbed(&["vn-judge>1", "unfit", "step>Ask>waits>Pass", "step>Pass>queues>Ask"]);
+    let give = tabbed(&["vn-judge>1", "unfit", "step>Ask>waits>Give", "step>Give>queues>Ask"]);
+    assert_eq!(judged(&bell(), &bell_mapping(0, 0, 0, 0)), Ok(pass));
+    assert_eq!(judged(&bell(), &bell_mapping(0, 1, 0, 1)), Ok(give));
+    assert_eq!(judged(&bell(), &bell_mapping(5, 9, 9, 9)), Ok(fit.clone()));
+    assert_eq!(judged(&bell(), &bell_mapping(1, 0, 0, 0)), Ok(fit));
+}
+
+/// The files of examples/ that end so, without that ending.
+fn examples_ending(ending: &str) -> Vec<String> {
+    let entries = fs::read_dir("examples").expect("there are examples");
+    let names = entries.map(|entry| entry.unwrap().file_name().into_string().unwrap());
+    let stems: Vec<String> =
+        names.filter_map(|name| name.strip_suffix(ending).map(|stem| stem.to_string())).collect();
+    assert!(stems.len() > 5, "examples that end in {}", ending);
+    stems
+}
+
+fn example(name: &str, ending: &str) -> Vec<u8> {
+    fs::read(format!("examples/{}{}", name, ending)).expect(name)
+}
+
+#[test]
+fn real_plans() {
+    for name in examples_ending(".plan") {
+        let text = example(&name, ".tsv");
+        assert_eq!(planned(&text), Ok(example(&name, ".plan")), "{}", name);
+        compare_plan(&text, LONGEST_LISTING);
+    }
+}
+
+#[test]
+fn real_judgements() {
+    for name in examples_ending(".judge") {
+        let (protocol, _) = name.rsplit_once('.').unwrap();
+        let (text, mapping) = (example(protocol, ".tsv"), example(&name, ".mapping.tsv"));
+        assert_eq!(judged(&text, &mapping), Ok(example(&name, ".judge")), "{}", name);
+        compare_judgement(&text, &mapping, LONGEST_LISTING);
+    }
+}
+
+// ---------------------------------------------------------------------
+// Refusals on both sides of their limits
+// ---------------------------------------------------------------------
+
+/// One more line after Bell, which is line 18, and the number that it is
+/// refused with; 0: it is accepted.
+const AFTER_BELL: [(&str, u8); 22] = [
+    ("cell>cache>I>load>go>I", 0),
+    ("cell>cache>I>load", 4),
+    ("cell>cache>I>load>go>I>Ask>Ask>Ask>Ask>Ask>Ask>Ask>Ask", 0),
+    ("cell>cache>I>load>go>I>Ask>Ask>Ask>Ask>Ask>Ask>Ask>Ask>Ask", 4),
+    ("", 4),
+    ("message>New>req", 5),
+    ("event>New", 5),
+    ("state>dir>New>stable", 5),
+    ("cell>dir>Free>Pass>go>Free", 0),
+    ("cell>dir>Free>load>go>Free", 7),
+    ("cell>dir>ID>Ask>go>Free", 7),
+    ("cell>dir>Free>Ask>go>ID", 7),
+    ("cell>cache>I>load>go>I>load", 7),
+    ("cell>cache>I>load>go>I>Asks", 7),
+    ("cell>cache>V>Give>stall", 10),
+    ("cell>cache>ID>Ask>stall", 0),
+    ("cell>dir>Wait>Ask>stall", 11),
+    ("cell>dir>Wait>Ask>go>Free", 11),
+    ("cell>dir>Wait>Done>stall", 11),
+    ("cell>dir>Wait>Done>go>Wait", 0),
+    ("cell>cache>ID>load>stall", 0),
+    ("cell>cache>V>load>stall", 10),
+];
+
+#[test]
+fn refusals_of_a_line() {
+    for (line, number) in AFTER_BELL {
+        let text = bell_and(&[line]);
+        let answer = planned(&text);
+        match number {
+            0 => assert!(answer.is_ok(), "{}", line),
+            _ => assert_eq!(answer, of_protocol(number, 18), "{}", line),
+        }
+        compare_plan(&text, LONGEST_LISTING);
+        // The protocol is refused before the mapping is read.
+        let right = if number == 0 { of_mapping(3, 1) } else { of_protocol(number, 18) };
+        assert_eq!(judged(&text, b""), right, "{}", line);
+    }
+}
+
+#[test]
+fn refusals_of_names() {
+    let declared = |name: &str| planned(&tabbed(&["vn-protocol>1", &format!("message>{}>req", name)]));
+    assert!(declared(&"n".repeat(24)).is_ok());
+    assert_eq!(declared(&"n".repeat(25)), of_protocol(6, 2));
+    assert!(declared("n").is_ok());
+    assert_eq!(declared(""), of_protocol(6, 2));
+    assert_eq!(declared("a b"), of_protocol(6, 2));
+    let twice = |second: &str| planned(&tabbed(&["vn-protocol>1", "message>a>req", second]));
+    assert!(twice("message>A>req").is_ok());
+    assert_eq!(twice("message>a>req"), of_protocol(8, 3));
+    assert_eq!(twice("event>a"), of_protocol(8, 3));
+    assert!(twice("state>dir>a>stable").is_ok());
+}
+
+#[test]
+fn refusals_of_a_whole_protocol() {
+    assert_eq!(planned(b""), of_protocol(3, 1));
+    assert_eq!(planned(b"vn-protocol\t1"), of_protocol(2, 1));
+    assert_eq!(planned(b"vn-protocol\t1\nmessage\ta\treq"), of_protocol(2, 2));
+    assert_eq!(planned(b"vn-protocol\t2\n"), of_protocol(3, 1));
+    assert_eq!(planned(b"vn-protocol\t1\n"), of_protocol(12, 0));
+    let entered = ["vn-protocol>1", "message>a>req", "state>dir>S>stable", "state>dir>T>transient"];
+    let with = |cells: &[&str]| planned(&tabbed(&[&entered[..], cells].concat()));
+    assert_eq!(with(&["cell>dir>T>a>stall"]), of_protocol(13, 5));
+    assert_eq!(with(&["cell>dir>S>a>go>S", "cell>dir>T>a>stall"]), of_protocol(13, 6));
+    assert!(with(&["cell>dir>T>a>stall", "cell>dir>S>a>go>T"]).is_ok());
+}
+
+#[test]
+fn texts_at_the_limits() {
+    let full = limits::full();
+    assert_eq!(full.len(), 49_152);
+    compare_plan(&full, LONGEST_LISTING);
+    assert!(planned(&full).is_ok());
+    for past in limits::one_more_of_each() {
+        assert_eq!(planned(&past.text), of_protocol(past.number as u8, past.line as usize));
+        compare_plan(&past.text, LONGEST_LISTING);
+        compare_judgement(&past.text, &bell_mapping(0, 0, 0, 0), LONGEST_LISTING);
+    }
+    let networks: Vec<Network> = (0..33).map(|i| Network(i % 32)).collect();
+    for count in [31, 32, 33] {
+        compare_judgement(&full, &limits::mapping_with(&networks[..count]), LONGEST_LISTING);
+    }
+}
+
+#[test]
+fn refusals_of_mappings() {
+    let with = |mapping: &[u8]| judged(&bell(), mapping);
+    let four = |last: &str| with(&[bell_mapping(0, 0, 0, 0), tabbed(&[last])].concat());
+    let ask = |field: &str| {
+        let text = ["vn-mapping>1", &format!("map>Ask>{}", field), "map>Pass>0", "map>Give>0", "map>Done>0"];
+        with(&tabbed(&text))
+    };
+    assert!(ask("31").is_ok());
+    for field in ["32", "01", "00", "", "+1", "-1", "100", "4294967296"] {
+        assert_eq!(ask(field), of_mapping(15, 2), "{}", field);
+    }
+    assert_eq!(with(b""), of_mapping(3, 1));
+    assert_eq!(with(b"vn-mapping\t1"), of_mapping(2, 1));
+    assert_eq!(with(b"vn-mapping\t1\n"), of_mapping(14, 2));
+    assert_eq!(with(&tabbed(&["vn-mapping>1", "map>Ask>0"])), of_mapping(14, 3));
+    assert_eq!(with(&tabbed(&["vn-mapping>1", "map>Pass>0"])), of_mapping(14, 2));
+    assert_eq!(four("map>Done>0"), of_mapping(14, 6));
+    assert_eq!(four("map>Done"), of_mapping(4, 6));
+    assert_eq!(with(&limits::long_mapping(49_153)), of_mapping(1, 0));
+    assert_eq!(with(&limits::long_mapping(49_152)), of_mapping(4, 2));
+    // Of both papers: the protocol first.
+    assert_eq!(judged(b"", b""), of_protocol(3, 1));
+}
+
+/// The chosen texts of host/case_texts.rs, through both calls. Each row of the
+/// refusal table has to be among them.
+#[test]
+fn chosen_texts() {
+    let mut seen = BTreeSet::new();
+    for item in case_texts::all() {
+        let (protocol, mapping) = match item {
+            Item::Protocol(text) => (text, b"vn-mapping\t1\n".to_vec()),
+            Item::Judge(text, mapping) => (text, mapping),
+        };
+        compare_plan(&protocol, LONGEST_LISTING);
+        compare_judgement(&protocol, &mapping, LONGEST_LISTING);
+        if let Err(refused) = second::judge(&protocol, &mapping) {
+            seen.insert((refused.paper, refused.number));
+        }
+    }
+    let of_protocol = (1..=13).map(|number| (0, number));
+    let of_mapping = [1, 2, 3, 4, 14, 15].into_iter().map(|number| (1, number));
+    assert_eq!(seen, of_protocol.chain(of_mapping).collect());
+}
+
+// ---------------------------------------------------------------------
+// Room
+// ---------------------------------------------------------------------
+
+/// Every room up to a bit more than needed.
+#[test]
+fn every_room() {
+    let hung = bell_and(&["cell>cache>ID>Pass>stall"]);
+    for text in [&bell(), &hung] {
+        let needed = planned(text).unwrap().len();
+        for room in 0..needed + 4 {
+            compare_plan(text, room);
+        }
+        assert_eq!(zeveltoren_texts::plan(text, &mut vec![0; needed - 1]), Err(Refusal::Room { needed }));
+        assert_eq!(zeveltoren_texts::plan(text, &mut vec![0; needed]), Ok(needed));
+    }
+    for mapping in [bell_mapping(0, 0, 0, 0), bell_mapping(5, 9, 9, 9)] {
+        let needed = judged(&bell(), &mapping).unwrap().len();
+        for room in 0..needed + 4 {
+            compare_judgement(&bell(), &mapping, room);
+        }
+        let mut short = vec![0; needed - 1];
+        let answer = zeveltoren_texts::judge(&bell(), &mapping, &mut short);
+        assert_eq!(answer, Err(Refusal::Room { needed }));
+    }
+}
+
+/// The longest listings of each kind, with the room that they need, a byte
+/// less, and far more than the packed length could say.
+#[test]
+fn room_for_long_listings() {
+    let rooms = |needed: usize| [0, 1, needed / 2, needed - 1, needed, needed + 1, 2_048, 70_000];
+    for text in [limits::longest_plan(), limits::longest_cycle(), limits::full()] {
+        for room in rooms(planned(&text).unwrap().len()) {
+            compare_plan(&text, room);
+        }
+    }
+    let (protocol, mapping) = limits::longest_unfit();
+    let needed = judged(&protocol, &mapping).unwrap().len();
+    assert_eq!(needed, 1_985);
+    for room in rooms(needed) {
+        compare_judgement(&protocol, &mapping, room);
+    }
+}
+
+/// 16 comes after all refusals of texts.
+#[test]
+fn room_comes_last() {
+    for room in [0, 1, 5] {
+        compare_plan(b"", room);
+        compare_plan(&bell_and(&["message>New>req"]), room);
+        compare_judgement(&bell(), b"", room);
+        compare_judgement(&bell(), &tabbed(&["vn-mapping>1"]), room);
+        compare_judgement(b"x", b"x", room);
+    }
+    assert_eq!(zeveltoren_texts::plan(b"", &mut []), of_protocol(3, 1).map(|_| 0));
+    assert_eq!(zeveltoren_texts::judge(&bell(), b"", &mut []), of_mapping(3, 1).map(|_| 0));
+}
+
+/// One text for both papers: the mapping's header is wrong.
+#[test]
+fn one_text_for_both() {
+    assert_eq!(judged(&bell(), &bell()), of_mapping(3, 1));
+}

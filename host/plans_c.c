@@ -1,0 +1,195 @@
+/*
+ * vn_plan_text and vn_judge_texts from C: the listings of the paper, one
+ * refusal of each number, and the room. Prints a line for each and ends with
+ * status 1 when something is wrong.
+ */
+#include <stdio.h>
+#include <stdlib.h>
+#include <string.h>
+#include "zeveltoren.h"
+
+/* The output lies between bytes that have to stay. */
+#define MARGIN 16
+#define UNTOUCHED 0xee
+
+static int wrong_lines = 0;
+
+static const char bell[] =
+    "vn-protocol\t1\n"
+    "message\tAsk\treq\nmessage\tPass\tfwd\nmessage\tGive\tdata\nmessage\tDone\tctl\n"
+    "event\tload\n"
+    "state\tcache\tI\tstable\nstate\tcache\tID\ttransient\nstate\tcache\tV\tstable\n"
+    "state\tdir\tFree\tstable\nstate\tdir\tWait\ttransient\n"
+    "cell\tcache\tI\tload\tgo\tID\tAsk\ncell\tcache\tID\tGive\tgo\tV\tDone\n"
+    "cell\tcache\tV\tPass\tgo\tI\tGive\ncell\tdir\tFree\tAsk\tgo\tWait\tPass\n"
+    "cell\tdir\tWait\tAsk\tstall\ncell\tdir\tWait\tDone\tgo\tFree\n";
+
+static const char bell_plan[] =
+    "vn-plan\t1\nclass\t3\nnetworks\t2\nmap\tAsk\t1\nmap\tPass\t0\nmap\tGive\t0\nmap\tDone\t0\n";
+
+/* One call. Without a mapping it is a plan. */
+struct example {
+    const char *name, *protocol, *mapping;
+    size_t room;
+    uint64_t right;
+    const char *listing;
+};
+
+/* The packed number, put together from its parts. */
+static uint64_t pack(unsigned refusal, unsigned paper, unsigned line, size_t length)
+{
+    return refusal + (paper << 8) + ((uint64_t)line << 16) + ((uint64_t)length << 32);
+}
+
+static uint64_t call(const struct example *example, uint8_t *out)
+{
+    const uint8_t *protocol = (const uint8_t *)example->protocol;
+    const uint8_t *mapping = (const uint8_t *)example->mapping;
+    size_t length = strlen(example->protocol);
+    if (mapping == NULL)
+        return vn_plan_text(protocol, length, out, example->room);
+    return vn_judge_texts(protocol, length, mapping, strlen(example->mapping), out, example->room);
+}
+
+/* The listing stands at the start of the output, and all else is untouched. */
+static int bytes_are_right(const struct example *example, const uint8_t *buffer)
+{
+    size_t i, length = strlen(example->listing);
+    for (i = 0; i < example->room + 2 * MARGIN; i++) {
+        uint8_t right = UNTOUCHED;
+        if (i >= MARGIN && i - MARGIN < length)
+            right = (uint8_t)example->listing[i - MARGIN];
+        if (buffer[i] != right)
+            return 0;
+    }
+    return 1;
+}
+
+static void check(struct example example)
+{
+    uint8_t *buffer = malloc(example.room + 2 * MARGIN);
+    uint64_t answer;
+    int right;
+    if (buffer == NULL)
+        exit(2);
+    memset(buffer, UNTOUCHED, example.room + 2 * MARGIN);
+    answer = call(&example, buffer + MARGIN);
+    right = answer == example.right && bytes_are_right(&example, buffer);
+    printf("%-24s refusal %2u paper %u line %2u length %4u needed %4u%s\n", example.name,
+           vn_refusal(answer), vn_paper(answer), vn_line(answer),
+           (unsigned)vn_listing_length(answer), (unsigned)vn_listing_needed(answer),
+           right ? "" : " WRONG");
+    if (!right)
+        wrong_lines++;
+    free(buffer);
+}
+
+static void accepted(const char *name, const char *protocol, const char *mapping, const char *listing)
+{
+    size_t length = strlen(listing);
+    check((struct example){name, protocol, mapping, VN_LONGEST_LISTING, pack(0, 0, 0, length), listing});
+    check((struct example){"  just enough room", protocol, mapping, length, pack(0, 0, 0, length), listing});
+    check((struct example){"  a byte less", protocol, mapping, length - 1, pack(VN_ROOM, 0, 0, length), ""});
+    check((struct example){"  no room", protocol, mapping, 0, pack(VN_ROOM, 0, 0, length), ""});
+}
+
+static void refused(const char *name, const char *protocol, const char *mapping, unsigned number,
+                    unsigned paper, unsigned line)
+{
+    check((struct example){name, protocol, mapping, 100, pack(number, paper, line, 0), ""});
+    check((struct example){name, protocol, mapping, 0, pack(number, paper, line, 0), ""});
+}
+
+/* Bell and one line more, which is line 18. */
+static const char *bell_and(const char *line)
+{
+    static char text[1024];
+    snprintf(text, sizeof text, "%s%s\n", bell, line);
+    return text;
+}
+
+static void check_listings(void)
+{
+    const char *all_0 = "vn-mapping\t1\nmap\tAsk\t0\nmap\tPass\t0\nmap\tGive\t0\nmap\tDone\t0\n";
+    const char *two = "vn-mapping\t1\nmap\tAsk\t5\nmap\tPass\t9\nmap\tGive\t9\nmap\tDone\t9\n";
+    accepted("Bell", bell, NULL, bell_plan);
+    accepted("Bell that hangs", bell_and("cell\tcache\tID\tPass\tstall"), NULL,
+             "vn-plan\t1\nclass\t2\ncycle\tPass\n");
+    accepted("Bell in one network", bell, all_0,
+             "vn-judge\t1\nunfit\nstep\tAsk\twaits\tPass\nstep\tPass\tqueues\tAsk\n");
+    accepted("Bell in two networks", bell, two, "vn-judge\t1\nfit\n");
+}
+
+static void check_protocol_refusals(void)
+{
+    char *long_text = malloc(49154);
+    if (long_text == NULL)
+        exit(2);
+    memset(long_text, '\n', 49153);
+    long_text[49153] = 0;
+    refused("49,153 bytes", long_text, NULL, VN_TOO_BIG, 0, 0);
+    long_text[49152] = 0;
+    refused("49,152 bytes", long_text, NULL, VN_HEADER, 0, 1);
+    refused("49,152 bytes of mapping", bell, long_text, VN_HEADER, 1, 1);
+    free(long_text);
+    refused("no end", "vn-protocol\t1\nmessage", NULL, VN_NO_END, 0, 2);
+    refused("empty", "", NULL, VN_HEADER, 0, 1);
+    refused("shape", bell_and("cell"), NULL, VN_SHAPE, 0, 18);
+    refused("order", bell_and("event\tstore"), NULL, VN_ORDER, 0, 18);
+    refused("name", "vn-protocol\t1\nmessage\t!\treq\n", NULL, VN_NAME, 0, 2);
+    refused("unknown", bell_and("cell\tcache\tI\tAsk\tgo\tFree"), NULL, VN_UNKNOWN, 0, 18);
+    refused("twice", "vn-protocol\t1\nmessage\ta\treq\nevent\ta\n", NULL, VN_TWICE, 0, 3);
+    refused("stall in a stable state", bell_and("cell\tcache\tI\tAsk\tstall"), NULL, VN_STALL_STABLE, 0, 18);
+    refused("conflict", bell_and("cell\tdir\tWait\tAsk\tgo\tFree"), NULL, VN_CONFLICT, 0, 18);
+    refused("no message", "vn-protocol\t1\n", NULL, VN_NO_MESSAGE, 0, 0);
+    refused("no entry", "vn-protocol\t1\nmessage\ta\treq\nstate\tdir\tT\ttransient\ncell\tdir\tT\ta\tstall\n",
+            NULL, VN_NO_ENTRY, 0, 4);
+}
+
+/* One more message than the 32 that there may be. */
+static void check_full(void)
+{
+    char text[1024] = "vn-protocol\t1\n";
+    int i;
+    for (i = 0; i < 33; i++)
+        sprintf(text + strlen(text), "message\tm%d\treq\n", i);
+    refused("33 messages", text, NULL, VN_FULL, 0, 34);
+}
+
+static void check_mapping_refusals(void)
+{
+    refused("mapping: empty", bell, "", VN_HEADER, 1, 1);
+    refused("mapping: no end", bell, "vn-mapping\t1\nmap", VN_NO_END, 1, 2);
+    refused("mapping: shape", bell, "vn-mapping\t1\nmap\tAsk\n", VN_SHAPE, 1, 2);
+    refused("mapping: another", bell, "vn-mapping\t1\nmap\tPass\t0\n", VN_UNMATCHED, 1, 2);
+    refused("mapping: ends early", bell, "vn-mapping\t1\nmap\tAsk\t31\n", VN_UNMATCHED, 1, 3);
+    refused("mapping: network 32", bell, "vn-mapping\t1\nmap\tAsk\t32\n", VN_NETWORK, 1, 2);
+    refused("both: the protocol", "", "", VN_HEADER, 0, 1);
+}
+
+/* The other libraries of the header stand in the same program. */
+static void check_side_by_side(void)
+{
+    uint8_t causes[4] = {0}, stalls[4] = {0}, network[1] = {UNTOUCHED};
+    int right = vn_check_protocol((const uint8_t *)bell, strlen(bell)) == VN_ACCEPTED;
+    right = right && vn_networks(vn_relations(1, causes, 4, stalls, 4, network, 1)) == 1;
+    right = right && network[0] == 0;
+    printf("%-24s%s\n", "the other calls", right ? "" : " WRONG");
+    if (!right)
+        wrong_lines++;
+}
+
+int main(void)
+{
+    check_side_by_side();
+    check_listings();
+    check_protocol_refusals();
+    check_full();
+    check_mapping_refusals();
+    if (wrong_lines != 0) {
+        printf("plans_c: %d lines are wrong\n", wrong_lines);
+        return 1;
+    }
+    printf("plans_c: all right\n");
+    return 0;
+}
