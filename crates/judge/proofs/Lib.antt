@@ -1,3 +1,5 @@
 pub mod JudgeLaws
 pub mod Promises
 pub mod Determined
+pub mod JudgeLongest
+pub mod Printing

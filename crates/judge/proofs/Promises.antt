@@ -10,8 +10,7 @@ use lib.Seq.{length-take-le, getD-take}
 use Rattle.rules.specs.declared.Network.{Network}
 use Rattle.rules.specs.Rules.{MessageNo, NetworkNo, Relations, Mapping, Waits, Fit, Unfit, WaitsCycle}
 use Rattle.rules.specs.Plan.{Height, LeastCount, Printed, Uses, PlanCycle, LongestChain}
-use Rattle.rules.specs.Promises.{Accepted, GoodPlan}
-use Rattle.rules.proofs.Promises.{every-plan, every-printed, one-class, shown-is-real, cycle-is-unfit, determined}
+use Rattle.rules.proofs.Promises.{every-printed, shown-is-real, cycle-is-unfit}
 use Rattle.text.specs.Name.{nameRule, nameText}
 use Rattle.tables.specs.declared.MessageRow.{MessageRow}
 use Rattle.tables.specs.declared.Tables.{Tables}
@@ -30,6 +29,7 @@ use Rattle.judge_listing.specs.JudgeText.{ShownStep, fitText, unfitText}
 use Rattle.verdicts.specs.Verdicts.{mappingOf}
 use Rattle.bounds.specs.Bounds.{Named}
 use Rattle.bounds.proofs.NamesKept.{names-kept}
+use Rattle.plan.proofs.PlanLongest.{networks-below}
 use Rattle.plan.specs.Call.{Three, Two, Planned, Call as PlanCall}
 use Rattle.judge.specs.Call.{FitListing, UnfitListing, Judged, Call as JudgeCall}
 use Rattle.judge.specs.Promises.{tablesOf, mapped, JudgedFit, JudgedUnfit, TextUses, ThreeKept, TwoKept, PlansKept}
@@ -96,21 +96,13 @@ module _ (x : List ℕ) (e : readProtocol x .number ≡ 0) where
   -- ---- class 3
 
   module _ (ns : List ℕ) (k : ℕ) (long : length ns ≡ t .«message_count») (printed : Printed p (λ m. getD ns m 0)) (least : LeastCount p k) where
-    below : (i : ℕ) → i < length ns → getD ns i 0 < 32
-    below i h = go (every-plan p (good .relations))
-      where
-        go : (WaitsCycle p × (l : List MessageNo) × PlanCycle p l × (length l ≤ p .count)) ⊎ ((¬ WaitsCycle p) × GoodPlan p) → getD ns i 0 < 32
-        go (inl q) = absurd (one-class p (q .1) k (q .2) least)
-        go (inr q) =
-            omega (arith, few, q .1 .networks-small i (omega (arith, h, long)), determined .mapping p (λ m. getD ns m 0) (q .1 .mapping) printed (q .1 .printed) i (omega (arith, h, long)))
-
     writable : Writable ms ns
     writable =
         record {
           few = omega (arith, few, many);
           long = long ∙ sym many;
           named = λ i h. ap (λ (row : MessageRow). nameRule (nameText (row .name))) (getD-take (t .«message_count») (t .messages) i noMessage (omega (arith, h, many))) ∙ rows .names i (omega (arith, h, many));
-          below = below;
+          below = networks-below p (good .relations) few k least ns long printed;
         }
 
     abbrev text : List ℕ

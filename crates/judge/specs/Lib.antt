@@ -1,3 +1,5 @@
 pub mod Call
 pub mod Promises
 pub mod Determined
+pub mod Longest
+pub mod Printed

@@ -6,6 +6,7 @@ ghost use Rattle.tables.specs.Cells.{TablesOk};
 ghost use Rattle.protocol.specs.Reading.{readProtocol};
 ghost use Rattle.verdicts.specs.Verdicts.{mappingOf};
 ghost use Rattle.judge.specs.Call.{Judged, AfterProtocol, Call, Packed};
+ghost use Rattle.judge.specs.Printed.{JudgePrinted};
 use answers::Answer;
 use rules::Network;
 use tables::Tables;
@@ -49,4 +50,26 @@ pub fn judge(protocol: &[u8], mapping: &[u8], out: &mut [u8]) -> Answer
     }
     let t = r.tables;
     judge_mapping(t, mapping, out)
+}
+
+// The judgement from a C host: the answer's numbers packed into one.
+#[no_mangle]
+pub extern "C" fn vn_judge_texts(protocol: &[u8], mapping: &[u8], out: &mut [u8]) -> u64
+    ensures { λ r. ⌜ Packed (now (protocol .entry)) (now (mapping .entry)) (now (out .entry)) (now (out .exit)) r ⌝ }
+{
+    let a = judge(protocol, mapping, out);
+    answers::packed(a)
+}
+
+// What the judging program prints. There is room for the longest answer within the limits.
+pub fn print_judgement(protocol: &[u8], mapping: &[u8], out: &mut [u8]) -> usize
+    requires { ⌜ 2048 ≤ length (now out) ⌝ }
+    ensures { λ r. ⌜ JudgePrinted (now (protocol .entry)) (now (mapping .entry)) (now (out .entry)) (now (out .exit)) r ⌝ }
+{
+    let a = judge(protocol, mapping, out);
+    if a.number == 0 {
+        return a.length;
+    }
+    let line = a.line as u32;
+    answers::put_refused(out, a.number, a.paper, line)
 }

@@ -5,7 +5,8 @@ use mathlib.Core.Logic.{_≢_}
 use mathlib.Core.Bool.{Bool, true, false}
 use mathlib.Core.List.{List}
 use native.Mathlib.Omega.{arith}
-use lib.ListN.{length}
+use lib.ListN.{length, take, drop, length-append}
+use lib.Seq.{length-take-le}
 use lib.Dec.{eqb}
 use borrow.Author.Tests.{eqb-true, eqb-false}
 use Rattle.text.specs.Written.{Wrote}
@@ -20,6 +21,13 @@ use Rattle.plan.specs.Printed.{PlanPrinted}
 use Rattle.plan.proofs.PlanLongest.{plan-length}
 
 -- ---- answers, whatever they are about
+
+-- what is written counts bytes at the front
+pub wrote-within : (text old new : List ℕ) (n : ℕ) → Wrote text old new n → n ≤ length new
+wrote-within text old new n w = omega (arith, w .count, ap length (w .bytes), length-append text (drop (length text) old))
+
+pub wrote-counts : (text old new : List ℕ) (n : ℕ) → Wrote text old new n → n ≡ length (take n new)
+wrote-counts text old new n w = sym (length-take-le n new (wrote-within text old new n w))
 
 -- there was room, and the listing was written
 pub listed-wrote : (listing old new : List ℕ) (r : Answer) → length listing ≤ length old → Listed listing old new r → (r .number ≡ 0) × Wrote listing old new (r .length)

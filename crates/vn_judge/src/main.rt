@@ -1,0 +1,18 @@
+// The judging program: protocol.tsv and mapping.tsv in the current folder, the listing or the refusal on standard output.
+// A file that can't be opened counts as an empty text.
+
+// One byte more than the largest text: so much tells that a text is too big.
+const MOST: usize = 49153;
+
+// Room for the longest listing.
+const ROOM: usize = 2048;
+
+fn main() {
+    let mut protocol = [0u8; MOST];
+    let n = files::read_file(b"protocol.tsv", &mut protocol);
+    let mut mapping = [0u8; MOST];
+    let m = files::read_file(b"mapping.tsv", &mut mapping);
+    let mut out = [0u8; ROOM];
+    let k = judge::print_judgement(&protocol[..n], &mapping[..m], &mut out);
+    io::write_all(1, &out[..k]);
+}

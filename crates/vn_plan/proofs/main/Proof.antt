@@ -1,0 +1,50 @@
+-- `vn_plan::main` is safe and ends. What it prints is proved of `plan::print_plan`.
+use borrow.Author.Needs.{needs}
+use Rattle.plan.proofs.Printing.{wrote-within, wrote-counts}
+use Rattle.vn_plan.proofs.main.Statement.{statement}
+use Rattle.vn_plan.proofs.main.Tie as tie
+
+slice-aggregate-read-full : tie.Need-slice-aggregate-read-full
+slice-aggregate-read-full c = search needs
+
+read-full-requires : tie.Need-read-full-requires
+read-full-requires c κs = search needs
+
+array-share-prefix-text : tie.Need-array-share-prefix-text
+array-share-prefix-text c = search needs
+
+slice-aggregate-print-plan : tie.Need-slice-aggregate-print-plan
+slice-aggregate-print-plan c = search needs
+
+slice-aggregate-print-plan-2 : tie.Need-slice-aggregate-print-plan-2
+slice-aggregate-print-plan-2 c = search needs
+
+print-plan-requires : tie.Need-print-plan-requires
+print-plan-requires c κs = search needs
+
+array-share-prefix-out : tie.Need-array-share-prefix-out
+array-share-prefix-out c = wrote-within _ _ _ _ (c .before .print-plan .ensures .wrote)
+
+slice-aggregate-write-all : tie.Need-slice-aggregate-write-all
+slice-aggregate-write-all c = wrote-counts _ _ _ _ (c .before .before .print-plan .ensures .wrote)
+
+write-all-requires : tie.Need-write-all-requires
+write-all-requires c κs = search needs
+
+returns : tie.Need-returns
+returns c = search needs
+
+pub main-spec : {M : Type 1} → statement M
+main-spec =
+    tie.close
+    (tie.spec
+    slice-aggregate-read-full
+    read-full-requires
+    array-share-prefix-text
+    slice-aggregate-print-plan
+    slice-aggregate-print-plan-2
+    print-plan-requires
+    array-share-prefix-out
+    slice-aggregate-write-all
+    write-all-requires
+    returns)
