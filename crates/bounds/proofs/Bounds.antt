@@ -22,9 +22,13 @@ use Rattle.tables.specs.Cells.{cellsOf, cellOf}
 use Rattle.records.specs.Line.{Line, Section, message, event, state, cell, unknown, sectionOf}
 use Rattle.records.specs.Checks.{sectionChecks, lineChecks, lineRefusal}
 use Rattle.mapping.specs.declared.Mapped.{Mapped}
-use Rattle.mapping.specs.Reading.{readMaps, readMapping, endOf, networkOf, field, unless as unlessMapped, lineChecks as mapChecks, lineRefusal as mapRefusal}
-use Rattle.protocol.specs.declared.Reading.{Reading}
-use Rattle.protocol.specs.Reading.{readLines, readProtocol, unless, storedIn, stored, accepted, wholeChecks, wholeRefusal, noEntryAt, hasNoEntry}
+use Rattle.mapping.specs.Reading.{readMaps, readMapping, endOf, unless as unlessMapped}
+use Rattle.networks.specs.Networks.{networkOf}
+use Rattle.maplines.specs.Line.{field, lineChecks as mapChecks, lineRefusal as mapRefusal}
+use Rattle.whole.specs.declared.Reading.{Reading}
+use Rattle.sections.specs.Lines.{readLines, storedIn, stored}
+use Rattle.protocol.specs.Reading.{readProtocol}
+use Rattle.whole.specs.Whole.{unless, accepted, wholeChecks, wholeRefusal, noEntryAt, hasNoEntry}
 use Rattle.bounds.specs.Bounds.{Low, ProtocolLow, MappingLow}
 use Rattle.bounds.proofs.Told.{AllLow, first-low, lines-le, opening-low}
 

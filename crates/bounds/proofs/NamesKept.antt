@@ -21,8 +21,10 @@ use Rattle.tables.specs.declared.Tables.{Tables}
 use Rattle.tables.specs.Tables.{noMessage, clearedTables, withMessage, withEvent, withState, withCell}
 use Rattle.records.specs.Line.{Line, Section, message, event, state, cell, unknown, sectionOf, field, messageOf}
 use Rattle.records.specs.Checks.{shaped, laterRead, badName, notKnown, twice, full, stallInStable, conflict, sectionChecks, lineRefusal}
-use Rattle.protocol.specs.declared.Reading.{Reading}
-use Rattle.protocol.specs.Reading.{readLines, readProtocol, unless, pickReading, refused, storedIn, stored, accepted, wholeRefusal}
+use Rattle.whole.specs.declared.Reading.{Reading}
+use Rattle.sections.specs.Lines.{readLines, storedIn, stored}
+use Rattle.protocol.specs.Reading.{readProtocol}
+use Rattle.whole.specs.Whole.{unless, pickReading, refused, accepted, wholeRefusal}
 use Rattle.bounds.specs.Bounds.{Named, NamesKept}
 
 -- ---- what a line that is not refused has passed

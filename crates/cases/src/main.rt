@@ -23,10 +23,10 @@ ghost use lib.ListN.{length};
 ghost use Rattle.tables.specs.Cells.{TablesOk};
 ghost use Rattle.cases.specs.Fit.{Fit};
 use mapping::Mapped;
-use protocol::Reading;
 use rules::Network;
 use tables::MessageRow;
 use tables::Tables;
+use whole::Reading;
 
 // What stands for a byte where the input has ended.
 const ENDED: usize = 256;

@@ -16,7 +16,7 @@ use Rattle.rows.specs.Rows.{Bit}
 use Rattle.tables.specs.declared.Tables.{Tables}
 use Rattle.tables.specs.Cells.{relationsOfTables}
 use Rattle.answers.specs.declared.Answer.{Answer}
-use Rattle.protocol.specs.declared.Reading.{Reading}
+use Rattle.whole.specs.declared.Reading.{Reading}
 use Rattle.protocol.specs.Reading.{readProtocol}
 use Rattle.mapping.specs.declared.Mapped.{Mapped}
 use Rattle.answers.specs.Answers.{refusedAt, Listed}

@@ -17,12 +17,12 @@ use Rattle.tables.specs.declared.Tables.{Tables}
 use Rattle.tables.specs.Tables.{noMessage, messagesOf}
 use Rattle.tables.specs.Cells.{relationsOfTables}
 use Rattle.protocol.specs.Reading.{readProtocol}
-use Rattle.protocol.specs.Promises.{AcceptedReading}
-use Rattle.protocol.proofs.Accepted.{accepted-kept}
+use Rattle.protocol_laws.specs.Promises.{AcceptedReading}
+use Rattle.protocol_laws.proofs.Accepted.{accepted-kept}
 use Rattle.mapping.specs.declared.Mapped.{Mapped}
 use Rattle.mapping.specs.Reading.{readMapping, accepted, networkNo}
 use Rattle.mapping.specs.Text.{mappingText, Writable}
-use Rattle.mapping.proofs.RoundTrip.{reads-back}
+use Rattle.mapping_laws.proofs.RoundTrip.{reads-back}
 use Rattle.answers.specs.declared.Answer.{Answer}
 use Rattle.answers.specs.Answers.{Listed}
 use Rattle.judge_listing.specs.JudgeText.{ShownStep, fitText, unfitText}

@@ -1,6 +1,2 @@
-pub mod NetworkLaws
-pub mod LineLaws
 pub mod ReadLaws
 pub mod Determined
-pub mod Why
-pub mod RoundTrip

@@ -18,10 +18,12 @@ use Rattle.papers.proofs.OpeningLaws.{opened}
 use Rattle.papers.proofs.Walk.{NextLine, walk-next, walk-end}
 use Rattle.tables.specs.declared.MessageRow.{MessageRow}
 use Rattle.mapping.specs.declared.Mapped.{Mapped}
-use Rattle.mapping.specs.declared.MapLine.{MapLine}
-use Rattle.mapping.specs.Reading.{Line, field, networkOf, shaped, lineRefusal, networkNo, refused, pickMapped, unless, readMaps, readMapping}
-use Rattle.mapping.specs.Line.{mapLine}
-use Rattle.mapping.proofs.LineLaws.{refusalAt, line-shape, line-many, line-gives}
+use Rattle.maplines.specs.declared.MapLine.{MapLine}
+use Rattle.maplines.specs.Line.{Line, field, shaped, lineRefusal}
+use Rattle.networks.specs.Networks.{networkOf}
+use Rattle.mapping.specs.Reading.{networkNo, refused, pickMapped, unless, readMaps, readMapping}
+use Rattle.maplines.specs.Line.{mapLine}
+use Rattle.maplines.proofs.LineLaws.{refusalAt, line-shape, line-many, line-gives}
 
 -- ---- one step of the reading
 

@@ -1,4 +1,2 @@
 pub mod Reading
-pub mod Line
 pub mod Text
-pub mod Why

@@ -1,61 +1,19 @@
 -- Reading a mapping text (01-scope.md, "The mapping text"): "`map` name network, one line for each message in message order".
 use Prim.Native.Nat.{ℕ, suc, _-_}
-use mathlib.Core.Bool.{Bool, true, false, not, _&&_}
+use mathlib.Core.Bool.{Bool, true, false}
 use mathlib.Core.List.{List, [], _∷_, _++_, map}
-use lib.ListN.{length, getD, drop, replicate}
-use lib.Dec.{eqb, ltb}
-use Rattle.rules.specs.Cases.{upTo}
+use lib.ListN.{length, drop, replicate}
+use lib.Dec.{eqb}
 use Rattle.rules.specs.declared.Network.{Network}
-use Rattle.text.specs.Parts.{sameText, firstIndex, split, lines}
-use Rattle.text.specs.Name.{nameText}
-use Rattle.text.specs.Words.{mappingHeader, mapWord}
-use Rattle.text.specs.Written.{decimal}
+use Rattle.text.specs.Parts.{split, lines}
+use Rattle.text.specs.Words.{mappingHeader}
 use Rattle.papers.specs.declared.Refusal.{Refusal}
-use Rattle.papers.specs.Checks.{Check, check, refusal, firstOf}
+use Rattle.papers.specs.Checks.{refusal}
 use Rattle.papers.specs.Opening.{openingOf}
 use Rattle.tables.specs.declared.MessageRow.{MessageRow}
+use Rattle.networks.specs.Networks.{networkOf}
+use Rattle.maplines.specs.Line.{field, lineRefusal}
 use Rattle.mapping.specs.declared.Mapped.{Mapped}
-
-abbrev pub Line : Type 0
-Line = List (List ℕ)
-
-abbrev pub field : Line → ℕ → List ℕ
-field f i = getD f i []
-
--- ---- "Network is decimal, 0 to 31, no leading zero."
-
-abbrev pub writtenAs : List ℕ → ℕ → Bool
-writtenAs x n = sameText (decimal n) x
-
--- The network that is written so, and 32 where none is.
-unfoldable pub networkOf : List ℕ → ℕ
-networkOf x = firstIndex (writtenAs x) (upTo 32 (λ n. n))
-
--- ---- a line's checks
-
--- 4 SHAPE: "unknown record, field count, or fixed word"
-abbrev pub shaped : Line → Bool
-shaped f = eqb (length f) 3 && sameText (field f 0) mapWord
-
--- 14 UNMATCHED: "mapping line names another message than the next, or is one too many". `next` are the messages that have no line yet.
-abbrev pub matches : List MessageRow → List ℕ → Bool
-matches [] x = false
-matches (m ∷ next) x = sameText (nameText (m .name)) x
-
--- 15 NETWORK: "network field malformed or above 31"
-abbrev pub isNetwork : List ℕ → Bool
-isNetwork x = ltb (networkOf x) 32
-
--- Line k is f.
-abbrev pub lineChecks : List MessageRow → ℕ → Line → List Check
-lineChecks next k f =
-    check 4 k (not (shaped f))
-    ∷ check 14 k (not (matches next (field f 1)))
-    ∷ check 15 k (not (isNetwork (field f 2)))
-    ∷ []
-
-unfoldable pub lineRefusal : List MessageRow → ℕ → Line → Refusal
-lineRefusal next k f = firstOf (lineChecks next k f)
 
 -- ---- the reading
 

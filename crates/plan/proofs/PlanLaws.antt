@@ -8,9 +8,9 @@ use lib.ListN.{take}
 use Rattle.tables.specs.declared.Tables.{Tables}
 use Rattle.tables.specs.Tables.{messagesOf}
 use Rattle.tables.specs.Cells.{relationsOfTables, TablesOk}
-use Rattle.protocol.specs.declared.Reading.{Reading}
+use Rattle.whole.specs.declared.Reading.{Reading}
 use Rattle.protocol.specs.Reading.{readProtocol}
-use Rattle.protocol.proofs.Accepted.{accepted-kept}
+use Rattle.protocol_laws.proofs.Accepted.{accepted-kept}
 use Rattle.answers.specs.declared.Answer.{Answer}
 use Rattle.answers.specs.Answers.{refusedAt, Listed}
 use Rattle.plan_listing.specs.PlanText.{classThree, classTwo, firstMessages, firstNetworks, MessagesBelow}

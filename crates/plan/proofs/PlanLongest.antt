@@ -20,8 +20,8 @@ use Rattle.tables.specs.declared.Tables.{Tables}
 use Rattle.tables.specs.Tables.{noMessage, messagesOf}
 use Rattle.tables.specs.Cells.{relationsOfTables}
 use Rattle.protocol.specs.Reading.{readProtocol}
-use Rattle.protocol.specs.Promises.{AcceptedReading}
-use Rattle.protocol.proofs.Accepted.{accepted-kept}
+use Rattle.protocol_laws.specs.Promises.{AcceptedReading}
+use Rattle.protocol_laws.proofs.Accepted.{accepted-kept}
 use Rattle.bounds.specs.Bounds.{Named}
 use Rattle.bounds.proofs.NamesKept.{names-kept}
 use Rattle.bounds.proofs.Bounds.{protocol-low}

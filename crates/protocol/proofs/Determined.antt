@@ -2,8 +2,7 @@
 use Prim.Native.Nat.{ℕ}
 use mathlib.Core.Path.{_≡_, sym, _∙_}
 use mathlib.Core.List.{List}
-use Rattle.protocol.specs.Reading.{packed, readProtocol}
-use Rattle.protocol.specs.Promises.{ReadingDetermined}
+use Rattle.protocol.specs.Reading.{packed, readProtocol, ReadingDetermined}
 
 pub reading-determined : ReadingDetermined
 reading-determined text r s p q = p ∙ sym q

@@ -2,7 +2,5 @@ pub mod Fields
 pub mod Numbers
 pub mod Sections
 pub mod Words
-pub mod Rows
-pub mod Named
 pub mod Under
 pub mod Determined

@@ -1,4 +1,4 @@
--- What the functions of this crate tell of one line: how it is refused, and what it stands for.
+-- What is told of one line: its fields, and how it is refused.
 use Prim.Native.Nat.{ℕ}
 use mathlib.Core.Path.{_≡_}
 use mathlib.Core.List.{List}
@@ -9,15 +9,7 @@ use Rattle.text.specs.Parts.{split}
 use Rattle.text.specs.Fields.{fieldsOf}
 use Rattle.papers.specs.declared.Refusal.{Refusal}
 use Rattle.papers.specs.Checks.{refusal, none, pickRefusal}
-use Rattle.tables.specs.declared.MessageRow.{MessageRow}
-use Rattle.tables.specs.declared.EventRow.{EventRow}
-use Rattle.tables.specs.declared.StateRow.{StateRow}
 use Rattle.tables.specs.declared.Tables.{Tables}
-use Rattle.tables.specs.Tables.{noMessage, noEvent, noState}
-use Rattle.records.specs.declared.MessageLine.{MessageLine}
-use Rattle.records.specs.declared.EventLine.{EventLine}
-use Rattle.records.specs.declared.StateLine.{StateLine}
-use Rattle.records.specs.Line.{messageOf, eventOf, stateOf}
 use Rattle.records.specs.Checks.{lineRefusal}
 
 -- f has the places of the line's fields.
@@ -31,44 +23,3 @@ tells number k = pickRefusal (eqb number 0) none (refusal number k)
 -- The line is refused with this number, wherever it stands, after t was read.
 abbrev pub Refuses : Tables → List ℕ → ℕ → Type 0
 Refuses t line number = (k : ℕ) → lineRefusal t k (split 9 line) ≡ tells number k
-
--- ---- a message's line, while only messages were read
-
-pub record OnlyMessages (t : Tables) (messages : List MessageRow) (count : ℕ) : Type 0 where
-  pub rows : t .messages ≡ messages
-  pub many : t .«message_count» ≡ count
-  pub no-event : t .«event_count» ≡ 0
-  pub no-state : t .«state_count» ≡ 0
-  pub no-cell : t .«cell_count» ≡ 0
-
-pub record MessageTold (line : List ℕ) (messages : List MessageRow) (count : ℕ) (r : MessageLine) : Type 0 where
-  pub told : (t : Tables) → OnlyMessages t messages count → Refuses t line (r .number)
-  pub row : r .number ≡ 0 → r .row ≡ messageOf (split 9 line)
-  pub cleared : ¬ (r .number ≡ 0) → r .row ≡ noMessage
-
--- ---- an event's line, while messages and events were read
-
-pub record MessagesEvents (t : Tables) (messages : List MessageRow) (message-count : ℕ) (events : List EventRow) (count : ℕ) : Type 0 where
-  pub messages-are : t .messages ≡ messages
-  pub messages-many : t .«message_count» ≡ message-count
-  pub rows : t .events ≡ events
-  pub many : t .«event_count» ≡ count
-  pub no-state : t .«state_count» ≡ 0
-  pub no-cell : t .«cell_count» ≡ 0
-
-pub record EventTold (line : List ℕ) (messages : List MessageRow) (message-count : ℕ) (events : List EventRow) (count : ℕ) (r : EventLine) : Type 0 where
-  pub told : (t : Tables) → MessagesEvents t messages message-count events count → Refuses t line (r .number)
-  pub row : r .number ≡ 0 → r .row ≡ eventOf (split 9 line)
-  pub cleared : ¬ (r .number ≡ 0) → r .row ≡ noEvent
-
--- ---- a state's line, while no cell was read
-
-pub record States (t : Tables) (states : List StateRow) (count : ℕ) : Type 0 where
-  pub rows : t .states ≡ states
-  pub many : t .«state_count» ≡ count
-  pub no-cell : t .«cell_count» ≡ 0
-
-pub record StateTold (line : List ℕ) (states : List StateRow) (count : ℕ) (r : StateLine) : Type 0 where
-  pub told : (t : Tables) → States t states count → Refuses t line (r .number)
-  pub row : r .number ≡ 0 → r .row ≡ stateOf (split 9 line)
-  pub cleared : ¬ (r .number ≡ 0) → r .row ≡ noState

@@ -1,5 +1,9 @@
 -- `records::word_at` meets its contract.
+use mathlib.Core.Path.{ap, _∙_}
+use mathlib.Core.List.{List}
+use Prim.Native.Nat.{ℕ}
 use borrow.Author.Needs.{needs}
+use Rattle.text.specs.Parts.{sameText}
 use Rattle.records.proofs.word_at.Statement.{statement}
 use Rattle.records.proofs.word_at.Tie as tie
 
@@ -10,7 +14,7 @@ same-requires : tie.Need-same-requires
 same-requires c κs = search needs
 
 returns : tie.Need-returns
-returns c = cc
+returns c = c .same .ensures ∙ ap (λ (x : List ℕ). sameText x (c .before .before .before .before .args .word .now)) (c .before .field-at .ensures)
 
 pub word-at-spec : {M : Type 1} → statement M
 word-at-spec = tie.close (tie.spec field-at-requires same-requires returns)

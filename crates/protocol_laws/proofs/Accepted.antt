@@ -1,0 +1,42 @@
+-- A text that is accepted gives tables to reason about: numbers in range, what is past a count as cleared, and a message.
+use Prim.Native.Nat.{ℕ, _<_}
+use mathlib.Core.Path.{_≡_, refl, sym, subst}
+use mathlib.Core.Bool.{false}
+use mathlib.Core.List.{[], _∷_}
+use native.Mathlib.Omega.{arith}
+use lib.Dec.{eqb, ltb}
+use borrow.Author.Tests.{eqb-false, ltb-false}
+use Rattle.rules.specs.Rules.{NoEntry}
+use Rattle.papers.specs.Checks.{check}
+use Rattle.papers.proofs.Checks.{passed-by}
+use Rattle.tables.specs.declared.Tables.{Tables}
+use Rattle.tables.specs.Cells.{cellsOf}
+use Rattle.tables.specs.Relations.{cellAt}
+use Rattle.tables.proofs.InRange.{relations-accepted}
+use Rattle.whole.specs.Whole.{noEntryAt, cellLine, wholeRefusal}
+use Rattle.whole.specs.Kept.{Kept}
+use Rattle.protocol_laws.specs.Promises.{atEnd, AcceptedReading, AcceptedKept}
+use Rattle.whole.proofs.Whole.{first-no-entry}
+use Rattle.protocol_laws.proofs.Why.{all-read, kept-end}
+
+-- what is known of tables that neither 12 nor 13 refuses
+module _ (t : Tables) (z : wholeRefusal t .number ≡ 0) where
+  both : (eqb (t .«message_count») 0 ≡ false) × (ltb (noEntryAt t) (t .«cell_count») ≡ false)
+  unfolding wholeRefusal
+  both =
+      let p = passed-by (check 12 0 (eqb (t .«message_count») 0)) (check 13 (cellLine t (noEntryAt t)) (ltb (noEntryAt t) (t .«cell_count»)) ∷ []) (λ q. omega arith) z in
+      (p .0, passed-by (check 13 (cellLine t (noEntryAt t)) (ltb (noEntryAt t) (t .«cell_count»))) [] (λ q. omega arith) (p .1) .0)
+
+  some-message : 0 < t .«message_count»
+  some-message = omega (arith, eqb-false (t .«message_count») 0 (both .0))
+
+  all-entries : Kept t → (i : ℕ) → i < t .«cell_count» → ¬ NoEntry (cellsOf t) (cellAt t i)
+  all-entries k i h = first-no-entry t (k .long) (k .ok .few) .earlier i (omega (arith, ltb-false (noEntryAt t) (t .«cell_count») (both .1)))
+
+pub accepted-kept : AcceptedKept
+accepted-kept text z =
+    let w = all-read text z in
+    let t = atEnd text in
+    let k = kept-end text (w .before) in
+    let some = some-message t (w .whole) in
+    subst AcceptedReading (sym (w .is)) (record { line = refl; kept = k; some = some; entries = all-entries t (w .whole) k; relations = relations-accepted t (k .ok) some })

@@ -1,0 +1,10 @@
+pub mod Bell
+pub mod KeptLine
+pub mod KeptLines
+pub mod Why
+pub mod Accepted
+pub mod WrittenText
+pub mod WrittenFields
+pub mod WrittenCells
+pub mod WrittenRecords
+pub mod SameText

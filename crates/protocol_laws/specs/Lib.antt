@@ -1,0 +1,3 @@
+pub mod Bell
+pub mod Promises
+pub mod Written

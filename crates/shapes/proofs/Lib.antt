@@ -1,0 +1,3 @@
+pub mod Shaped
+pub mod Misplacing
+pub mod Determined

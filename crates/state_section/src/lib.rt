@@ -1,0 +1,40 @@
+// The lines of states, then those of the sections behind them.
+ghost use mathlib.Core.Path.{_≡_};
+ghost use lib.ListN.{drop};
+ghost use Rattle.text.specs.Parts.{lines};
+ghost use Rattle.records.specs.Line.{state};
+ghost use Rattle.sections.specs.Lines.{readLines};
+ghost use Rattle.whole.specs.Kept.{Kept};
+ghost use Rattle.sections.specs.Sections.{Placed, Stage};
+use tables::Tables;
+use whole::Reading;
+
+// Reads on from a line that is no message or event, or comes too late to be one.
+pub fn read_states(text: &[u8], from: usize, first: usize, given: Tables) -> Reading
+    requires { ⌜ Kept given × Placed (now text) from first × Stage state (now text) from given ⌝ }
+    ensures { λ r. ⌜ r ≡ readLines first (lines (drop from (now (text .entry)))) given ⌝ }
+{
+    let mut t = given;
+    let mut at = from;
+    let mut line = first;
+    while at < text.len() {
+        let n = lines::next_line(text, at, b"state");
+        let e = n.end;
+        let f = n.fields;
+        if !n.is {
+            return cell_section::read_cells(text, at, line, t);
+        }
+        let rows = t.states;
+        let count = t.state_count;
+        let r = declarations::state_line(&text[at..e], f, rows, count);
+        if r.number != 0 {
+            return whole::refused_at(r.number, line);
+        }
+        let row = r.row;
+        t.states[count] = row;
+        t.state_count = count + 1;
+        at = e + 1;
+        line += 1;
+    }
+    cell_section::read_cells(text, at, line, t)
+}
