@@ -16,8 +16,8 @@ use Rattle.tables.specs.declared.Tables.{Tables}
 use Rattle.tables.specs.Tables.{messagesOf}
 use Rattle.tables.specs.Cells.{relationsOfTables}
 use Rattle.protocol.specs.Reading.{readProtocol}
-use Rattle.protocol.specs.Promises.{AcceptedReading}
-use Rattle.protocol.proofs.Accepted.{accepted-kept}
+use Rattle.protocol_laws.specs.Promises.{AcceptedReading}
+use Rattle.protocol_laws.proofs.Accepted.{accepted-kept}
 use Rattle.bounds.proofs.NamesKept.{names-kept}
 use Rattle.bounds.proofs.Bounds.{protocol-low, mapping-low}
 use Rattle.answers.specs.declared.Answer.{Answer}
