@@ -29,7 +29,7 @@ use Rattle.whole.specs.declared.Reading.{Reading}
 use Rattle.sections.specs.Lines.{readLines, storedIn, stored}
 use Rattle.protocol.specs.Reading.{readProtocol}
 use Rattle.whole.specs.Whole.{unless, accepted, wholeChecks, wholeRefusal, noEntryAt, hasNoEntry}
-use Rattle.bounds.specs.Bounds.{Low, ProtocolLow, MappingLow}
+use Rattle.bounds.specs.Bounds.{Low, ProtocolLow, WholeLine, MappingLow}
 use Rattle.bounds.proofs.Told.{AllLow, first-low, lines-le, opening-low}
 
 -- ---- the protocol
@@ -96,6 +96,9 @@ protocol-low text = ⊎-elim small big (fits-or-not (length text))
 
     big : 49152 < length text → LowReading (readProtocol text)
     big h = subst (λ (r : Refusal). LowReading (unless r body)) (sym (too-big protocolHeader text h)) (omega arith, omega arith)
+
+pub whole-line : WholeLine
+whole-line text = omega (arith, protocol-low text .1)
 
 -- ---- the mapping
 

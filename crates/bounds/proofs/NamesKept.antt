@@ -25,6 +25,7 @@ use Rattle.whole.specs.declared.Reading.{Reading}
 use Rattle.sections.specs.Lines.{readLines, storedIn, stored}
 use Rattle.protocol.specs.Reading.{readProtocol}
 use Rattle.whole.specs.Whole.{unless, pickReading, refused, accepted, wholeRefusal}
+use Rattle.protocol_laws.proofs.SameText.{unless-number}
 use Rattle.bounds.specs.Bounds.{Named, NamesKept}
 
 -- ---- what a line that is not refused has passed
@@ -105,13 +106,6 @@ named-stored cell t f n e g = record { long = n .long; short = n .short; names =
 named-stored unknown t f n e g = n
 
 -- ---- the text
-
-unless-number : (r : Refusal) (a : Reading) → unless r a .number ≡ 0 → (r .number ≡ 0) × (unless r a ≡ a)
-unless-number r a e = go (eqb (r .number) 0) refl e
-  where
-    go : (b : Bool) → eqb (r .number) 0 ≡ b → pickReading b a (refused r) .number ≡ 0 → (r .number ≡ 0) × (pickReading b a (refused r) ≡ a)
-    go true q k = (eqb-true (r .number) 0 q, refl)
-    go false q k = absurd (eqb-false (r .number) 0 q k)
 
 named-lines : (k : ℕ) (ls : List (List ℕ)) (t : Tables) → Named t → readLines k ls t .number ≡ 0 → Named (readLines k ls t .tables)
 unfolding readLines lineRefusal

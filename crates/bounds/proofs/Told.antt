@@ -7,6 +7,7 @@ use native.Mathlib.Omega.{arith}
 use lib.ListN.{length, drop, length-drop}
 use lib.Dec.{eqb}
 use Rattle.text.specs.Parts.{split, onto, howMany, lines}
+use Rattle.text.proofs.Parts.{many-le}
 use Rattle.papers.specs.declared.Refusal.{Refusal}
 use Rattle.papers.specs.Checks.{Check, firstOf}
 use Rattle.papers.specs.Opening.{openingChecks, openingOf}
@@ -29,15 +30,6 @@ first-low (c ∷ cs) h = go (c .given) refl (first-low cs (h .1))
     go false e k = subst (λ (r : Refusal). Low (r .number) (r .line)) (sym (first-passed c cs e)) k
 
 -- ---- how many lines there are
-
-pub many-le : (b : ℕ) (l : List ℕ) → howMany b l ≤ length l
-unfolding howMany
-many-le b [] = omega arith
-many-le b (x ∷ l) = go (eqb x b) (many-le b l)
-  where
-    go : (t : Bool) → howMany b l ≤ length l → cond t (suc (howMany b l)) (howMany b l) ≤ suc (length l)
-    go true h = omega arith
-    go false h = omega arith
 
 length-onto : (x : ℕ) (ps : List (List ℕ)) (n : ℕ) → length ps ≡ suc n → length (onto x ps) ≡ suc n
 length-onto x [] n e = absurd (omega (arith, e))

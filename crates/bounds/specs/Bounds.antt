@@ -1,6 +1,6 @@
 -- How large the numbers of a refusal can be: a refusal number of a paper is at most 15. A text of at most 49,152 bytes has at most
 -- that many lines; NO_END tells the line after the last end, and UNMATCHED the line after the last. So a line has its place in 16 bits.
-use Prim.Native.Nat.{ℕ, _≤_, _<_}
+use Prim.Native.Nat.{ℕ, _≤_, _<_, _%_}
 use mathlib.Core.Path.{_≡_}
 use mathlib.Core.Bool.{true}
 use mathlib.Core.List.{List}
@@ -20,6 +20,10 @@ ProtocolLow = (text : List ℕ) → Low (readProtocol text .number) (readProtoco
 
 abbrev pub MappingLow : Type 0
 MappingLow = (messages : List MessageRow) (text : List ℕ) → Low (readMapping messages text .number) (readMapping messages text .line)
+
+-- `vn_check_protocol` packs the line's remainder by 65,536: that is the line.
+abbrev pub WholeLine : Type 0
+WholeLine = (text : List ℕ) → readProtocol text .line % 65536 ≡ readProtocol text .line
 
 -- The rows of messages: there are 32, the name of each declared message keeps the name rule, and no row has a longer name.
 pub record Named (t : Tables) : Type 0 where

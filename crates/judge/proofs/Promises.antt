@@ -23,6 +23,7 @@ use Rattle.mapping.specs.declared.Mapped.{Mapped}
 use Rattle.mapping.specs.Reading.{readMapping, accepted, networkNo}
 use Rattle.mapping.specs.Text.{mappingText, Writable}
 use Rattle.mapping_laws.proofs.RoundTrip.{reads-back}
+use Rattle.mapping_laws.proofs.Why.{pad-at}
 use Rattle.answers.specs.declared.Answer.{Answer}
 use Rattle.answers.specs.Answers.{Listed}
 use Rattle.judge_listing.specs.JudgeText.{ShownStep, fitText, unfitText}
@@ -33,17 +34,6 @@ use Rattle.plan.proofs.PlanLongest.{networks-below}
 use Rattle.plan.specs.Call.{Three, Two, Planned, Call as PlanCall}
 use Rattle.judge.specs.Call.{FitListing, UnfitListing, Judged, Call as JudgeCall}
 use Rattle.judge.specs.Promises.{tablesOf, mapped, JudgedFit, JudgedUnfit, TextUses, ThreeKept, TwoKept, PlansKept}
-
--- zeros behind change nothing that is read
-zero-at : (n i : ℕ) → _≡_ {A = ℕ} (getD (replicate n 0) i 0) 0
-zero-at zero i = refl
-zero-at (suc n) zero = refl
-zero-at (suc n) (suc i) = zero-at n i
-
-pad-at : (l : List ℕ) (n i : ℕ) → getD (l ++ replicate n 0) i 0 ≡ getD l i 0
-pad-at [] n i = zero-at n i
-pad-at (x ∷ l) n zero = refl
-pad-at (x ∷ l) n (suc i) = pad-at l n i
 
 -- ---- an accepted protocol
 

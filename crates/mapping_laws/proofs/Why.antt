@@ -211,7 +211,7 @@ zero-at zero i = refl
 zero-at (suc n) zero = refl
 zero-at (suc n) (suc i) = zero-at n i
 
-pad-at : (l : List ℕ) (n i : ℕ) → getD (l ++ replicate n 0) i 0 ≡ getD l i 0
+pub pad-at : (l : List ℕ) (n i : ℕ) → getD (l ++ replicate n 0) i 0 ≡ getD l i 0
 pad-at [] n i = zero-at n i
 pad-at (x ∷ l) n zero = refl
 pad-at (x ∷ l) n (suc i) = pad-at l n i
