@@ -36,9 +36,6 @@ module _ (next : List MessageRow) (k : ℕ) (f : List (List ℕ)) (e : lineRefus
   after-match : (not (matches next (field f 1)) ≡ false) × (firstOf (check 15 k (not (isNetwork (field f 2))) ∷ []) .number ≡ 0)
   after-match = passed-by (check 14 k (not (matches next (field f 1)))) (check 15 k (not (isNetwork (field f 2))) ∷ []) (λ z. omega arith) (after-shape .1)
 
-  pub line-shaped : shaped f ≡ true
-  line-shaped = not-false (shaped f) (after-shape .0)
-
   pub line-matches : matches next (field f 1) ≡ true
   line-matches = not-false (matches next (field f 1)) (after-match .0)
 

@@ -20,25 +20,12 @@ module _ (t : Tables) (x : List ℕ) where
     unfolding messageAt
     message-declared e = first-found (messageNamed x) (t .messages) (t .«message_count») d long (ltb-true (messageAt t x) (t .«message_count») e)
 
-    -- no message has the name
-    pub message-undeclared : isMessage t x ≡ false → (j : ℕ) → j < t .«message_count» → messageNamed x (getD (t .messages) j d) ≡ false
-    unfolding messageAt
-    message-undeclared e = first-absent (messageNamed x) (t .messages) (t .«message_count») d long (ltb-false (messageAt t x) (t .«message_count») e)
-
   module _ (d : EventRow) (long : t .«event_count» ≤ length (t .events)) where
     pub event-declared : isEvent t x ≡ true → First (eventNamed x) (t .events) (t .«event_count») d (eventAt t x)
     unfolding eventAt
     event-declared e = first-found (eventNamed x) (t .events) (t .«event_count») d long (ltb-true (eventAt t x) (t .«event_count») e)
 
-    pub event-undeclared : isEvent t x ≡ false → (j : ℕ) → j < t .«event_count» → eventNamed x (getD (t .events) j d) ≡ false
-    unfolding eventAt
-    event-undeclared e = first-absent (eventNamed x) (t .events) (t .«event_count») d long (ltb-false (eventAt t x) (t .«event_count») e)
-
   module _ (c : Controller) (d : StateRow) (long : t .«state_count» ≤ length (t .states)) where
     pub state-declared : isState t c x ≡ true → First (stateNamed c x) (t .states) (t .«state_count») d (stateAt t c x)
     unfolding stateAt
     state-declared e = first-found (stateNamed c x) (t .states) (t .«state_count») d long (ltb-true (stateAt t c x) (t .«state_count») e)
-
-    pub state-undeclared : isState t c x ≡ false → (j : ℕ) → j < t .«state_count» → stateNamed c x (getD (t .states) j d) ≡ false
-    unfolding stateAt
-    state-undeclared e = first-absent (stateNamed c x) (t .states) (t .«state_count») d long (ltb-false (stateAt t c x) (t .«state_count») e)

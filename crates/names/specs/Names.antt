@@ -1,8 +1,7 @@
 -- Names in the tables: which row has one.
-use Prim.Native.Nat.{ℕ, _≤_, _<_}
+use Prim.Native.Nat.{ℕ}
 use mathlib.Core.Bool.{Bool, true, false, _&&_, cond}
 use mathlib.Core.List.{List}
-use lib.ListN.{getD}
 use lib.Dec.{ltb}
 use Rattle.text.specs.Parts.{sameText, firstIndex}
 use Rattle.text.specs.Name.{nameText}
@@ -12,7 +11,7 @@ use Rattle.tables.specs.declared.MessageRow.{MessageRow}
 use Rattle.tables.specs.declared.EventRow.{EventRow}
 use Rattle.tables.specs.declared.StateRow.{StateRow}
 use Rattle.tables.specs.declared.Tables.{Tables}
-use Rattle.tables.specs.Tables.{noMessage, noEvent, noState, messagesOf, eventsOf, statesOf}
+use Rattle.tables.specs.Tables.{messagesOf, eventsOf, statesOf}
 use Rattle.names.specs.declared.FoundMessage.{FoundMessage}
 use Rattle.names.specs.declared.FoundMessage.the-variants.{At as MessageAt, Nothing as NoMessage}
 use Rattle.names.specs.declared.FoundEvent.{FoundEvent}
@@ -66,16 +65,3 @@ foundEvent i n = cond (ltb i n) (EventAt (record { 0 = i })) NoEvent
 
 abbrev pub foundState : ℕ → ℕ → FoundState
 foundState i n = cond (ltb i n) (StateAt (record { 0 = i })) NoState
-
--- The names of the rows in use are at most 24 bytes long, and no more rows are in use than there are.
-pub record MessagesFit (messages : List MessageRow) (count : ℕ) : Type 0 where
-  pub few : count ≤ 32
-  pub short : (i : ℕ) → i < count → getD messages i noMessage .name .length ≤ 24
-
-pub record EventsFit (events : List EventRow) (count : ℕ) : Type 0 where
-  pub few : count ≤ 8
-  pub short : (i : ℕ) → i < count → getD events i noEvent .name .length ≤ 24
-
-pub record StatesFit (states : List StateRow) (count : ℕ) : Type 0 where
-  pub few : count ≤ 64
-  pub short : (i : ℕ) → i < count → getD states i noState .name .length ≤ 24

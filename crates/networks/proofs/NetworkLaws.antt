@@ -76,18 +76,6 @@ network-none x f =
     first-none (writtenAs x) below 32 0 (omega (arith, length-upTo 32 (λ (k : ℕ). k)))
     (λ j k. ap (writtenAs x) (getD-upTo 32 j (λ (i : ℕ). i) 0 k) ∙ same-false (decimal j) x (f j k))
 
-pub network-le : (x : List ℕ) → networkOf x ≤ 32
-unfolding networkOf
-network-le x = omega (arith, first-le (writtenAs x) below, length-upTo 32 (λ (k : ℕ). k))
-
--- what is read is what is written
-pub network-written : (x : List ℕ) → networkOf x < 32 → decimal (networkOf x) ≡ x
-unfolding networkOf
-network-written x h =
-    let n = firstIndex (writtenAs x) below in
-    same-true (decimal n) x
-    (ap (writtenAs x) (sym (getD-upTo 32 n (λ (i : ℕ). i) 0 h)) ∙ first-passes (writtenAs x) below 0 (omega (arith, length-upTo 32 (λ (k : ℕ). k))))
-
 -- ---- by its bytes
 
 -- the first of some bytes, and the second

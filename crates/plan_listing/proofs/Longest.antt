@@ -15,10 +15,6 @@ use Rattle.plan_listing.specs.PlanText.{mapText, nameAt, namesText}
 use Rattle.plan_listing.specs.Lengths.{ShortNames, LongestMaps, LongestCycle}
 use Rattle.plan_listing.proofs.Lines.{map-text-length, class-three-length, class-two-length}
 
--- a name that keeps at most 24 bytes is not longer
-pub kept-short : (name : Name) → length (name .bytes) ≤ 24 → length (nameText name) ≤ 24
-kept-short name h = omega (arith, kept-length name)
-
 two-digits : (n : ℕ) → n ≤ 32 → length (decimal n) ≤ 2
 two-digits n h = decimal-length 1 n (omega arith)
 

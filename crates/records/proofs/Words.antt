@@ -84,13 +84,6 @@ module _ {K F : Type 0} (is : K → F) (nothing : F) (same : (k l : K) → is k 
   found-nothing false k e = refl
 
 module _ (x : List ℕ) where
-  pub kind-is : (k : Kind) → IsKind k ≡ foundKind x → (isKind x ≡ true) × (k ≡ kindOf x)
-  unfolding foundKind
-  kind-is k e = found-is IsKind NoKind (λ a b q. cc) (λ a q. let z : _≡_ {A = ℕ} 0 1 = cc in omega arith) (isKind x) (kindOf x) k e
-
-  pub kind-nothing : NoKind ≡ foundKind x → isKind x ≡ false
-  unfolding foundKind
-  kind-nothing e = found-nothing IsKind NoKind (λ a b q. cc) (λ a q. let z : _≡_ {A = ℕ} 0 1 = cc in omega arith) (isKind x) (kindOf x) e
 
   pub controller-is : (k : Controller) → IsController k ≡ foundController x → (isController x ≡ true) × (k ≡ controllerOf x)
   unfolding foundController

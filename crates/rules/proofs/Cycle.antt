@@ -83,16 +83,6 @@ module _ (W S : Rel) where
         simp length-append (omega arith),
       )
 
-  -- so no number stands twice in a shown cycle
-  pub shown-distinct : (ms : List ℕ) → Shown W S ms → Distinct ms
-  shown-distinct ms s = go (distinct-or ms)
-    where
-      go : Distinct ms ⊎ Repeat ms → Distinct ms
-      go (inl d) = d
-      go (inr r) =
-          let t = cut (r .u) (r .x) (r .v) (r .w) (subst (Closed W S) (r .is) (s .closed)) in
-          absurd (omega (arith, s .shortest (t .0) (t .1), t .2, ap length (r .is)))
-
 -- ---- the first list in dictionary order, among the lists of L numbers below n
 
 pub record FirstList (n L : ℕ) (P : List ℕ → Type 0) : Type 0 where

@@ -28,9 +28,6 @@ not-tells a f = (λ t p. T-not a t (f .1 p), λ n. not-T a (λ t. n (f .0 t)))
 pub eqb-tells : (m n : ℕ) → Tells (eqb m n) (m ≡ n)
 eqb-tells m n = (eqb→eq m n, λ e. subst (λ (k : ℕ). T (eqb m k)) e (eqb-refl m))
 
-pub leb-tells : (m n : ℕ) → Tells (leb m n) (m ≤ n)
-leb-tells m n = (leb→le m n, le→leb m n)
-
 pub ltb-tells : (m n : ℕ) → Tells (ltb m n) (m < n)
 ltb-tells m n = (ltb→lt m n, lt→ltb m n)
 

@@ -31,10 +31,6 @@ uses-one n φ j k s t = omega (arith, uses-le n φ j k s t, uses-le n φ k j t s
 pub least-one : (p : Relations) (j k : ℕ) → LeastCount p j → LeastCount p k → j ≡ k
 least-one p j k s t = omega (arith, s .least (t .mapping) k (t .fit) (t .uses), t .least (s .mapping) j (s .fit) (s .uses))
 
-pub longest-one : (p : Relations) (j k : ℕ) → LongestChain p j → LongestChain p k → j ≡ k
-longest-one p j k s t =
-    omega (arith, s .longest (t .start) (t .rest) (t .message) (t .chain), t .longest (s .start) (s .rest) (s .message) (s .chain), s .messages, t .messages)
-
 pub counts-one : (P : ℕ → Type 0) (n j k : ℕ) → Counts P n j → Counts P n k → j ≡ k
 counts-one P zero j k s t = s ∙ sym t
 counts-one P (suc n) j k (inl s) (inl t) = omega (arith, counts-one P n (s .0) (t .0) (s .2) (t .2), s .3, t .3)

@@ -5,5 +5,4 @@ pub mod AllCells
 pub mod InRange
 pub mod Stored
 pub mod Determined
-pub mod Bell
 pub mod Given

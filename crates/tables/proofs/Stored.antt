@@ -4,7 +4,7 @@ use mathlib.Core.Path.{_≡_, refl, sym, subst, ap, _∙_}
 use mathlib.Core.List.{List, [], _∷_, _++_, map}
 use native.Mathlib.Numerals.{add-one}
 use native.Mathlib.Omega.{arith}
-use lib.ListN.{length, getD, take, drop, set, replicate, length-drop, length-replicate, take-append-drop}
+use lib.ListN.{length, getD, take, drop, set, replicate, length-drop, length-replicate}
 use lib.Seq.{take-suc-set, drop-set-lt, drop-drop}
 use Rattle.tables.specs.declared.MessageRow.{MessageRow}
 use Rattle.tables.specs.declared.EventRow.{EventRow}
@@ -38,10 +38,6 @@ module _ {A : Type 0} where
       let q : k - n - 1 ≡ k - (n + 1) = omega arith in
       drop-set-lt (n + 1) l n x h ∙ sym (drop-drop 1 n l) ∙ ap (drop 1) e ∙ drop-one (k - n) z ∙ ap (λ (m : ℕ). replicate m z) q
 
-  -- a list whose rest is cleared is as long as it was begun
-  pub long-cleared : (k : ℕ) (l : List A) (n : ℕ) (z : A) → n < k → drop n l ≡ replicate (k - n) z → length l ≡ k
-  long-cleared k l n z h e = omega (arith, length-drop n l, ap length e, length-replicate (k - n) z)
-
 -- ---- the lists of what is stored
 
 pub message-stored : (t : Tables) (row : MessageRow) → t .«message_count» < length (t .messages) → messagesOf (withMessage t row) ≡ messagesOf t ++ (row ∷ [])
@@ -63,23 +59,6 @@ cell-stored t c h = take-stored (t .cells) (t .«cell_count») c h
 map-snoc : (l : List Cell) (c : Cell) → map cellOf (l ++ (c ∷ [])) ≡ map cellOf l ++ (cellOf c ∷ [])
 map-snoc [] c = refl
 map-snoc (d ∷ l) c = ap (λ m. cellOf d ∷ m) (map-snoc l c)
-
--- the cells of the rules: one more with each cell stored, and none with anything else
-pub cells-stored : (t : Tables) (c : Cell) → t .«cell_count» < length (t .cells) → cellsOf (withCell t c) ≡ cellsOf t ++ (cellOf c ∷ [])
-unfolding cellsOf
-cells-stored t c h = ap (map cellOf) (cell-stored t c h) ∙ map-snoc (storedOf t) c
-
-pub cells-message : (t : Tables) (row : MessageRow) → cellsOf (withMessage t row) ≡ cellsOf t
-unfolding cellsOf withMessage
-cells-message t row = refl
-
-pub cells-event : (t : Tables) (row : EventRow) → cellsOf (withEvent t row) ≡ cellsOf t
-unfolding cellsOf withEvent
-cells-event t row = refl
-
-pub cells-state : (t : Tables) (row : StateRow) → cellsOf (withState t row) ≡ cellsOf t
-unfolding cellsOf withState
-cells-state t row = refl
 
 -- ---- what is past a count is as cleared, always
 
@@ -170,37 +149,3 @@ ok-cell t c h k q ok = record {
       subst (Each (CellOk (t .«message_count») (t .«event_count») (t .«state_count»))) (sym (cell-stored t c k))
       (each-snoc (CellOk (t .«message_count») (t .«event_count») (t .«state_count»)) (storedOf t) c (ok .cells) q);
 }
-
--- ---- tables that store the same are the same
-
-whole : {A : Type 0} (l m : List A) (i j : ℕ) (r s : List A) → take i l ≡ take j m → drop i l ≡ r → drop j m ≡ s → r ≡ s → l ≡ m
-whole l m i j r s e p q f =
-    let h : take i l ++ drop i l ≡ take j m ++ drop j m = cc in
-    sym (take-append-drop i l) ∙ h ∙ take-append-drop j m
-
-made : List MessageRow → List EventRow → List StateRow → List Cell → ℕ → ℕ → ℕ → ℕ → Tables
-made a b s d i j k n =
-    record {
-      messages = a;
-      events = b;
-      states = s;
-      cells = d;
-      «message_count» = i;
-      «event_count» = j;
-      «state_count» = k;
-      «cell_count» = n;
-    }
-
-remade : (t : Tables) → t ≡ made (t .messages) (t .events) (t .states) (t .cells) (t .«message_count») (t .«event_count») (t .«state_count») (t .«cell_count»)
-unfolding made
-remade t = refl
-
-pub same-tables : (t u : Tables) → ClearedPast t → ClearedPast u
-    → t .«message_count» ≡ u .«message_count» → t .«event_count» ≡ u .«event_count» → t .«state_count» ≡ u .«state_count» → t .«cell_count» ≡ u .«cell_count»
-    → messagesOf t ≡ messagesOf u → eventsOf t ≡ eventsOf u → statesOf t ≡ statesOf u → storedOf t ≡ storedOf u → t ≡ u
-same-tables t u p q a b s n e f g h =
-    let m1 : t .messages ≡ u .messages = whole (t .messages) (u .messages) (t .«message_count») (u .«message_count») _ _ e (p .messages) (q .messages) (ap (λ (k : ℕ). replicate (32 - k) noMessage) a) in
-    let m2 : t .events ≡ u .events = whole (t .events) (u .events) (t .«event_count») (u .«event_count») _ _ f (p .events) (q .events) (ap (λ (k : ℕ). replicate (8 - k) noEvent) b) in
-    let m3 : t .states ≡ u .states = whole (t .states) (u .states) (t .«state_count») (u .«state_count») _ _ g (p .states) (q .states) (ap (λ (k : ℕ). replicate (64 - k) noState) s) in
-    let m4 : t .cells ≡ u .cells = whole (t .cells) (u .cells) (t .«cell_count») (u .«cell_count») _ _ h (p .cells) (q .cells) (ap (λ (k : ℕ). replicate (512 - k) noCell) n) in
-    cc (remade t, remade u)

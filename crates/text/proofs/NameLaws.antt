@@ -99,10 +99,6 @@ pub name-text : (l : List ℕ) → nameText (nameOf l) ≡ l
 unfolding nameOf
 name-text l = take-at l (replicate (24 - length l) 0) (length l) refl
 
--- two texts with one name are the same
-pub name-injective : (l m : List ℕ) → nameOf l ≡ nameOf m → l ≡ m
-name-injective l m e = sym (name-text l) ∙ ap (λ (n : Name). nameText n) e ∙ name-text m
-
 pub name-length : (l : List ℕ) → nameOf l .length ≡ length l
 unfolding nameOf
 name-length l = refl

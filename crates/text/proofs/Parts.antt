@@ -41,9 +41,6 @@ same-false l m h = go (sameText l m) refl
     go true e = absurd (h (same-true l m e))
     go false e = e
 
-pub false-same : (l m : List ℕ) → sameText l m ≡ false → l ≡ m → ⊥
-false-same l m e h = let t = true-same l m h in let q : _≡_ {A = ℕ} 0 1 = cc in omega arith
-
 -- texts of other lengths
 pub same-lengths : (l m : List ℕ) → (length l ≡ length m → ⊥) → sameText l m ≡ false
 same-lengths l m h = same-false l m (λ e. h (ap length e))
@@ -181,16 +178,6 @@ module _ (b : ℕ) (text : List ℕ) where
     place-none j g f q =
         let r = first-before (is b) (part text a e) 0 (j - a) (omega arith) in
         eqb-false (getD text j 0) b (ap (is b) (sym (at-part j g (omega (arith, place-to)))) ∙ r) q
-
-    -- b stands there
-    pub place-found : place b text a e < e → getD text (place b text a e) 0 ≡ b
-    unfolding place
-    place-found f =
-        let i = firstIndex (is b) (part text a e) in
-        let r = first-passes (is b) (part text a e) 0 (omega (arith, length-part text a e k)) in
-        let s : a + i - a ≡ i = omega arith in
-        eqb-true (getD text (a + i) 0) b
-        (ap (is b) (sym (at-part (a + i) (omega arith) f) ∙ ap (λ (j : ℕ). getD (part text a e) j 0) s) ∙ r)
 
 -- ---- how many there are
 
