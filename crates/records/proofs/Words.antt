@@ -84,7 +84,6 @@ module _ {K F : Type 0} (is : K → F) (nothing : F) (same : (k l : K) → is k 
   found-nothing false k e = refl
 
 module _ (x : List ℕ) where
-
   pub controller-is : (k : Controller) → IsController k ≡ foundController x → (isController x ≡ true) × (k ≡ controllerOf x)
   unfolding foundController
   controller-is k e = found-is IsController NoController (λ a b q. cc) (λ a q. let z : _≡_ {A = ℕ} 0 1 = cc in omega arith) (isController x) (controllerOf x) k e

@@ -152,7 +152,6 @@ module _ (p q old new : List ℕ) (a b : ℕ) (room : a + length (p ++ q) ≤ le
 
 -- the same after a text at the front
 module _ (p q old new : List ℕ) (a : ℕ) (room : length (p ++ q) ≤ length old) (w : Wrote p old new a) where
-
   pub more-room : a + length q ≤ length new
   more-room = next-room p q old new 0 a (omega arith) (wrote-pasted p old new a w)
 
