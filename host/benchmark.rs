@@ -14,7 +14,7 @@ mod random;
 mod second;
 mod zeveltoren;
 
-use measure::{median, thread_time};
+use measure::{kept, median, thread_time};
 use random::{Random, Tables};
 
 /// What we aim at: this many times the fast variant, and so many bytes.
@@ -238,20 +238,14 @@ mod stack {
         crate::second::relations_fast(n, causes, stalls, out).packed()
     }
 
-    const PAINT: u64 = 0xa5c3_96e1_78d2_b4f0;
-    const WORDS: usize = 8_192;
-
     /// How many bytes below the caller's frame a call writes to: it runs on a
     /// painted stack of its own. Counted are the return address and what the
     /// call pushes; not the seventh argument, which is the caller's.
     pub fn used(function: Exported, tables: &Tables) -> usize {
-        let mut painted = vec![PAINT; WORDS];
         let mut out = [0_u8; 32];
-        let top = painted.as_mut_ptr_range().end as usize & !15;
-        unsafe { call_on(top, function, tables, &mut out) };
-        let untouched = painted.iter().take_while(|word| **word == PAINT).count();
-        let lowest = painted.as_ptr() as usize + 8 * untouched;
-        top - 16 - lowest
+        crate::measure::painted(|top| {
+            unsafe { call_on(top, function, tables, &mut out) };
+        }) - 16
     }
 
     /// The seventh argument goes on the stack, at an address that 16 divides.
@@ -303,16 +297,12 @@ fn print_stack() -> usize {
     0
 }
 
-fn verdict(kept: bool) -> &'static str {
-    if kept { "kept" } else { "MISSED" }
-}
-
 fn main() {
     let highest = print_times();
     let stack = print_stack();
     println!(
         "at most {} times the fast variant: {} (highest {:.2})",
-        MOST_RATIO, verdict(highest <= MOST_RATIO), highest
+        MOST_RATIO, kept(highest <= MOST_RATIO), highest
     );
-    println!("at most {} bytes of stack: {}", MOST_STACK, verdict(stack <= MOST_STACK));
+    println!("at most {} bytes of stack: {}", MOST_STACK, kept(stack <= MOST_STACK));
 }

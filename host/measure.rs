@@ -1,4 +1,7 @@
-//! What the benchmarks share: a clock that leaves waiting out, and the median.
+//! What the benchmarks share: a clock that leaves waiting out, the median, and
+//! a painted stack that tells how much of it a call takes.
+
+#![allow(dead_code)]
 
 /// C's time, as Linux has it on machines of 64 bits.
 #[repr(C)]
@@ -22,8 +25,60 @@ pub fn thread_time() -> u128 {
     time.seconds as u128 * 1_000_000_000 + time.nanoseconds as u128
 }
 
-#[allow(dead_code)]
 pub fn median(mut figures: Vec<f64>) -> f64 {
     figures.sort_by(|a, b| a.partial_cmp(b).unwrap());
     figures[figures.len() / 2]
+}
+
+/// Whether what we aim at is kept, in a word.
+pub fn kept(kept: bool) -> &'static str {
+    if kept {
+        "kept"
+    } else {
+        "MISSED"
+    }
+}
+
+const PAINT: u64 = 0xa5c3_96e1_78d2_b4f0;
+const WORDS: usize = 262_144;
+
+/// How many bytes below the top of a painted stack are written to by what runs
+/// on it. The call is given the top, an address that 16 divides.
+pub fn painted(call: impl FnOnce(usize)) -> usize {
+    let mut painted = vec![PAINT; WORDS];
+    let top = painted.as_mut_ptr_range().end as usize & !15;
+    call(top);
+    let untouched = painted.iter().take_while(|word| **word == PAINT).count();
+    top - (painted.as_ptr() as usize + 8 * untouched)
+}
+
+/// How many bytes of stack a call takes whose arguments go in registers.
+#[cfg(target_arch = "x86_64")]
+pub fn stack_used(function: usize, words: [usize; 6]) -> usize {
+    painted(|top| unsafe { call_on(top, function, words) })
+}
+
+#[cfg(not(target_arch = "x86_64"))]
+pub fn stack_used(_function: usize, _words: [usize; 6]) -> usize {
+    0
+}
+
+#[cfg(target_arch = "x86_64")]
+unsafe fn call_on(top: usize, function: usize, words: [usize; 6]) {
+    std::arch::asm!(
+        "mov r12, rsp",
+        "mov rsp, r13",
+        "call r15",
+        "mov rsp, r12",
+        in("rdi") words[0],
+        in("rsi") words[1],
+        in("rdx") words[2],
+        in("rcx") words[3],
+        in("r8") words[4],
+        in("r9") words[5],
+        out("r12") _,
+        in("r13") top,
+        in("r15") function,
+        clobber_abi("C"),
+    );
 }

@@ -15,7 +15,7 @@ mod measure;
 mod second;
 mod zeveltoren_texts;
 
-use measure::{median, thread_time};
+use measure::{kept, median, thread_time};
 use second::Network;
 
 /// What we aim at: this many times the second program, and so many bytes.
@@ -89,82 +89,17 @@ fn measured(task: &Task) -> [f64; 3] {
     [0, 1, 2].map(|column| median(rounds.iter().map(|round| round[column]).collect()))
 }
 
-#[cfg(target_arch = "x86_64")]
-mod stack {
-    use crate::Task;
-    use std::arch::asm;
-
-    extern "C" {
-        fn vn_plan_text(text: *const u8, text_length: usize, out: *mut u8, out_length: usize) -> u64;
-
-        fn vn_judge_texts(
-            protocol: *const u8,
-            protocol_length: usize,
-            mapping: *const u8,
-            mapping_length: usize,
-            out: *mut u8,
-            out_length: usize,
-        ) -> u64;
-    }
-
-    const PAINT: u64 = 0xa5c3_96e1_78d2_b4f0;
-    const WORDS: usize = 262_144;
-
-    /// How many bytes below the caller's frame a call writes to: it runs on a
-    /// painted stack of its own.
-    pub fn used(task: &Task) -> usize {
-        let mut painted = vec![PAINT; WORDS];
-        let mut out = [0; crate::zeveltoren_texts::LONGEST_LISTING];
-        let (text, length) = (task.protocol.as_ptr() as usize, task.protocol.len());
-        let (lent, room) = (out.as_mut_ptr() as usize, out.len());
-        let top = painted.as_mut_ptr_range().end as usize & !15;
-        match &task.mapping {
-            None => {
-                let words = [text, length, lent, room, 0, 0];
-                unsafe { call_on(top, vn_plan_text as usize, words) };
-            }
-            Some(mapping) => {
-                let words = [text, length, mapping.as_ptr() as usize, mapping.len(), lent, room];
-                unsafe { call_on(top, vn_judge_texts as usize, words) };
-            }
+/// How many bytes of stack the call takes.
+fn stack_used(task: &Task) -> usize {
+    let mut out = [0; zeveltoren_texts::LONGEST_LISTING];
+    let (text, length) = (task.protocol.as_ptr() as usize, task.protocol.len());
+    let (lent, room) = (out.as_mut_ptr() as usize, out.len());
+    match &task.mapping {
+        None => measure::stack_used(zeveltoren_texts::plan_address(), [text, length, lent, room, 0, 0]),
+        Some(mapping) => {
+            let words = [text, length, mapping.as_ptr() as usize, mapping.len(), lent, room];
+            measure::stack_used(zeveltoren_texts::judge_address(), words)
         }
-        let untouched = painted.iter().take_while(|word| **word == PAINT).count();
-        top - (painted.as_ptr() as usize + 8 * untouched)
-    }
-
-    /// The six registers that carry what a call gets.
-    unsafe fn call_on(top: usize, function: usize, words: [usize; 6]) {
-        asm!(
-            "mov r12, rsp",
-            "mov rsp, r13",
-            "call r15",
-            "mov rsp, r12",
-            in("rdi") words[0],
-            in("rsi") words[1],
-            in("rdx") words[2],
-            in("rcx") words[3],
-            in("r8") words[4],
-            in("r9") words[5],
-            out("r12") _,
-            in("r13") top,
-            in("r15") function,
-            clobber_abi("C"),
-        );
-    }
-}
-
-#[cfg(not(target_arch = "x86_64"))]
-mod stack {
-    pub fn used(_task: &crate::Task) -> usize {
-        0
-    }
-}
-
-fn kept(kept: bool) -> &'static str {
-    if kept {
-        "kept"
-    } else {
-        "MISSED"
     }
 }
 
@@ -173,7 +108,7 @@ fn main() {
     println!("{:<32} {:>6} {:>8} {:>8} {:>6} {:>8}", "", "bytes", "library", "second", "ratio", "stack");
     let (mut highest, mut most_stack) = (0.0_f64, 0);
     for task in tasks() {
-        let ([ours, theirs, ratio], stack) = (measured(&task), stack::used(&task));
+        let ([ours, theirs, ratio], stack) = (measured(&task), stack_used(&task));
         let (name, bytes) = (task.name, task.protocol.len());
         println!("{:<32} {:>6} {:>8.0} {:>8.0} {:>6.2} {:>8}", name, bytes, ours, theirs, ratio, stack);
         highest = highest.max(ratio);

@@ -14,7 +14,7 @@ mod measure;
 mod second;
 mod zeveltoren_texts;
 
-use measure::{median, thread_time};
+use measure::{kept, median, thread_time};
 
 /// What we aim at: this many times the plain reader, and so many bytes.
 const MOST_RATIO: f64 = 4.0;
@@ -46,62 +46,11 @@ fn plain(text: &[u8]) -> u64 {
     }
 }
 
-#[cfg(target_arch = "x86_64")]
-mod stack {
-    use std::arch::asm;
-
-    extern "C" {
-        fn vn_check_protocol(text: *const u8, text_length: usize) -> u64;
-    }
-
-    const PAINT: u64 = 0xa5c3_96e1_78d2_b4f0;
-    const WORDS: usize = 131_072;
-
-    /// How many bytes below the caller's frame a reading writes to: it runs
-    /// on a painted stack of its own.
-    pub fn used(text: &[u8]) -> usize {
-        let mut painted = vec![PAINT; WORDS];
-        let top = painted.as_mut_ptr_range().end as usize & !15;
-        unsafe { call_on(top, text) };
-        let untouched = painted.iter().take_while(|word| **word == PAINT).count();
-        top - (painted.as_ptr() as usize + 8 * untouched)
-    }
-
-    unsafe fn call_on(top: usize, text: &[u8]) -> u64 {
-        let answer: u64;
-        asm!(
-            "mov r12, rsp",
-            "mov rsp, r13",
-            "call r15",
-            "mov rsp, r12",
-            in("rdi") text.as_ptr(),
-            in("rsi") text.len(),
-            out("r12") _,
-            in("r13") top,
-            in("r15") vn_check_protocol,
-            out("rax") answer,
-            clobber_abi("C"),
-        );
-        answer
-    }
-}
-
-#[cfg(target_arch = "x86_64")]
 fn print_stack(text: &[u8]) {
-    let used = stack::used(text);
+    let words = [text.as_ptr() as usize, text.len(), 0, 0, 0, 0];
+    let used = measure::stack_used(zeveltoren_texts::check_address(), words);
     println!("stack of a reading: {} bytes", used);
     println!("at most {} bytes of stack: {}", MOST_STACK, kept(used <= MOST_STACK));
-}
-
-#[cfg(not(target_arch = "x86_64"))]
-fn print_stack(_text: &[u8]) {}
-
-fn kept(kept: bool) -> &'static str {
-    if kept {
-        "kept"
-    } else {
-        "MISSED"
-    }
 }
 
 fn main() {

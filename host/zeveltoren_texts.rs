@@ -1,7 +1,7 @@
 //! A safe wrapper around the calls on texts that the library exports.
 //!
-//! `plan` and `judge` want the library `judge`, `check_protocol` the library
-//! `protocol`. Slices are all that the calls ask for: any texts and any output
+//! `plan` wants the library `plan`, `judge` the library `judge`, and
+//! `check_protocol` the library `protocol`. Slices are all that the calls ask for: any texts and any output
 //! are answered or refused.
 
 #![allow(dead_code)]
@@ -100,4 +100,17 @@ pub fn check_protocol(text: &[u8]) -> (u8, usize) {
 pub fn check_protocol_packed(text: &[u8]) -> u64 {
     // A slice's pointer is good for its length. That is all that is asked.
     unsafe { vn_check_protocol(text.as_ptr(), text.len()) }
+}
+
+/// Where the calls stand, for who measures their stack.
+pub fn check_address() -> usize {
+    vn_check_protocol as usize
+}
+
+pub fn plan_address() -> usize {
+    vn_plan_text as usize
+}
+
+pub fn judge_address() -> usize {
+    vn_judge_texts as usize
 }

@@ -13,6 +13,7 @@ use Rattle.rules.proofs.Chains.{chain-map, plus-map}
 use Rattle.rules.proofs.Same.{height-same, pairs-same, shown-same}
 use Rattle.rules.proofs.Least.{least-count}
 use Rattle.rules.proofs.Decided.{waits-within}
+use Rattle.rules.proofs.Decided.{plus-closed}
 use Rattle.rows.specs.Rows.{Bit, Rows, ofRows}
 use Rattle.rows.proofs.Given.{rows-accepted}
 use Rattle.walks.specs.Walks.{Heights, Cycle}
@@ -102,15 +103,6 @@ wrote-first k old new long fits rest = record {
   fits = fits;
   bytes = take-drop k new ∙ ap (λ (t : List ℕ). take k new ++ t) rest;
 }
-
--- ---- a closed walk
-
-begins : (R : Rel) (a b : ℕ) (l : List ℕ) → Chain R a (l ++ b ∷ []) → Begins R a (l ++ b ∷ [])
-begins R a b [] c = c .0
-begins R a b (x ∷ l) c = c .0
-
-pub plus-closed : (R : Rel) (a : ℕ) → Plus R a a → (ms : List ℕ) × Closed R R ms
-plus-closed R a w = (a ∷ w .0, (begins R a a (w .0) (w .1), w .1))
 
 -- ---- the plan of the rows, from the walks
 

@@ -7,42 +7,25 @@ use native.Mathlib.Omega.{arith}
 use lib.ListN.{length, getD, set, drop, replicate, length-set, length-replicate}
 use lib.Seq.{getD-set-same, getD-set-other}
 use lib.Dec.{eqb}
-use borrow.Author.Tests.{leb-false, eqb-true, eqb-false}
+use borrow.Author.Tests.{leb-false, eqb-true, eqb-false, not-false}
 use Rattle.text.specs.Parts.{split, lines}
 use Rattle.text.specs.Name.{nameRule, nameText, nameOf}
 use Rattle.text.specs.Words.{protocolHeader}
 use Rattle.text.proofs.NameLaws.{name-text, rule-length}
 use Rattle.papers.specs.declared.Refusal.{Refusal}
-use Rattle.papers.specs.Checks.{check, firstOf}
 use Rattle.papers.specs.Opening.{openingOf}
-use Rattle.papers.proofs.Checks.{passed-by}
 use Rattle.tables.specs.declared.MessageRow.{MessageRow}
 use Rattle.tables.specs.declared.Tables.{Tables}
 use Rattle.tables.specs.Tables.{noMessage, clearedTables, withMessage, withEvent, withState, withCell}
 use Rattle.records.specs.Line.{Line, Section, message, event, state, cell, unknown, sectionOf, field, messageOf}
-use Rattle.records.specs.Checks.{shaped, laterRead, badName, notKnown, twice, full, stallInStable, conflict, sectionChecks, lineRefusal}
+use Rattle.records.specs.Checks.{badName, full, lineRefusal}
 use Rattle.whole.specs.declared.Reading.{Reading}
 use Rattle.sections.specs.Lines.{readLines, storedIn, stored}
 use Rattle.protocol.specs.Reading.{readProtocol}
 use Rattle.whole.specs.Whole.{unless, pickReading, refused, accepted, wholeRefusal}
+use Rattle.sections.proofs.Passed.{passed}
 use Rattle.protocol_laws.proofs.SameText.{unless-number}
 use Rattle.bounds.specs.Bounds.{Named, NamesKept}
-
--- ---- what a line that is not refused has passed
-
-module _ (s : Section) (t : Tables) (k : ℕ) (f : Line) (e : firstOf (sectionChecks s t k f) .number ≡ 0) where
-  after-order : firstOf (check 6 k (badName s f) ∷ (check 7 k (notKnown s t f) ∷ (check 8 k (twice s t f) ∷ (check 9 k (full s t) ∷ (check 10 k (stallInStable s t f) ∷ (check 11 k (conflict s t f) ∷ [])))))) .number ≡ 0
-  after-order = passed-by (check 5 k (laterRead s t)) _ (λ q. absurd (omega (arith, q))) (passed-by (check 4 k (not (shaped s f))) _ (λ q. absurd (omega (arith, q))) e .1) .1
-
-  passed-name : badName s f ≡ false
-  passed-name = passed-by (check 6 k (badName s f)) _ (λ q. absurd (omega (arith, q))) after-order .0
-
-  passed-full : full s t ≡ false
-  passed-full =
-      let a = passed-by (check 6 k (badName s f)) _ (λ q. absurd (omega (arith, q))) after-order .1 in
-      let b = passed-by (check 7 k (notKnown s t f)) _ (λ q. absurd (omega (arith, q))) a .1 in
-      let c = passed-by (check 8 k (twice s t f)) _ (λ q. absurd (omega (arith, q))) b .1 in
-      passed-by (check 9 k (full s t)) _ (λ q. absurd (omega (arith, q))) c .0
 
 -- ---- names
 
@@ -55,13 +38,9 @@ named-cleared = record { long = length-replicate 32 noMessage; short = no-name 3
     no-name (suc n) zero = omega (arith, ap length (name-text []))
     no-name (suc n) (suc i) = no-name n i
 
-not-not : (b : Bool) → not b ≡ false → b ≡ true
-not-not true e = refl
-not-not false e = sym e
-
 name-here : (f : Line) → badName message f ≡ false → nameRule (nameText (messageOf f .name)) ≡ true
 unfolding messageOf
-name-here f e = ap nameRule (name-text (field f 1)) ∙ not-not (nameRule (field f 1)) e
+name-here f e = ap nameRule (name-text (field f 1)) ∙ not-false (nameRule (field f 1)) e
 
 named-message : (t : Tables) (row : MessageRow) → Named t → t .«message_count» < 32 → nameRule (nameText (row .name)) ≡ true → Named (withMessage t row)
 unfolding withMessage
@@ -113,9 +92,10 @@ named-lines k [] t n e = subst (λ (r : Reading). Named (r .tables)) (sym (unles
 named-lines k (l ∷ ls) t n e =
     let f = split 9 l in
     let q = unless-number (lineRefusal t k f) (readLines (suc k) ls (stored t f)) e in
+    let p = passed (sectionOf f) t k f (q .0) in
     subst (λ (r : Reading). Named (r .tables)) (sym (q .1))
     (named-lines (suc k) ls (stored t f)
-    (named-stored (sectionOf f) t f n (passed-name (sectionOf f) t k f (q .0)) (passed-full (sectionOf f) t k f (q .0)))
+    (named-stored (sectionOf f) t f n (p .name) (p .room))
     (ap (λ (r : Reading). r .number) (sym (q .1)) ∙ e))
 
 pub names-kept : NamesKept

@@ -14,6 +14,7 @@ use Rattle.rows.specs.Rows.{Bit}
 use Rattle.rows.specs.Row.{Join}
 use Rattle.rows.proofs.Bits.{bit?, bit-zero, bit-below, none-from, from-none}
 use Rattle.rows.proofs.Filling.{Filling, fill-start, fill-step, fill-each, fill-kept}
+use Rattle.rows.proofs.Together.{Together}
 use Rattle.call.specs.Call.{WrongCount}
 use Rattle.call.specs.Tables.{word, rowsOf, rowAt, Loaded, Stray}
 use Rattle.waits.specs.Waiting.{Tidy}
@@ -52,37 +53,14 @@ module _ (n : ℕ) (table old : List ℕ) where
 -- ---- stray bits
 
 module _ (rows : List ℕ) (n : ℕ) where
-  -- the bits of the rows below i, together
-  pub record StrayInv (all i : ℕ) : Type 0 where
-    pub at-most : i ≤ n
-    pub small : all < 2 ^ 32
-    pub bits : (j : ℕ) → Bit all j ↔ ((a : ℕ) × (a < i) × Bit (getD rows a 0) j)
-
-  pub stray-start : StrayInv 0 0
-  stray-start = record { at-most = omega arith; small = omega arith; bits = λ j. (λ b. absurd (bit-zero j b), λ t. absurd (omega (arith, t .1))) }
-
-  pub stray-step : (all i next : ℕ) → i < n → Join all (getD rows i 0) next → next < 2 ^ 32 → StrayInv all i → StrayInv next (i + 1)
-  stray-step all i next hi joined small inv = record {
-    at-most = omega arith;
-    small = small;
-    bits = λ j. (
-      λ b. ⊎-elim (λ x. let t = inv .bits j .0 x in (t .0, omega (arith, t .1), t .2)) (λ x. (i, omega arith, x)) (joined .bits j .0 b),
-      λ t. joined .bits j .1 (pick j t (ℕ-discrete (t .0) i)),
-    );
-  }
-    where
-      pick : (j : ℕ) (t : (a : ℕ) × (a < i + 1) × Bit (getD rows a 0) j) → Dec (t .0 ≡ i) → Bit all j ⊎ Bit (getD rows i 0) j
-      pick j t (yes e) = inr (subst (λ (a : ℕ). Bit (getD rows a 0) j) e (t .2))
-      pick j t (no g) = inl (inv .bits j .1 (t .0, omega (arith, t .1), t .2))
-
   -- a row of 32 bits has no bit at or above 32
-  pub stray-full : (all i : ℕ) → n ≤ i → n ≡ 32 → StrayInv all i → ¬ Stray n rows
+  pub stray-full : (all i : ℕ) → n ≤ i → n ≡ 32 → Together rows n all i → ¬ Stray n rows
   stray-full all i h e inv s = absurd (omega (arith, bit-below 32 all (s .j) (inv .small) (inv .bits (s .j) .1 (s .i, omega (arith, s .i-below), s .bit)), s .j-above))
 
-  pub stray-none : (all i : ℕ) → n ≤ i → all / 2 ^ n ≡ 0 → StrayInv all i → ¬ Stray n rows
+  pub stray-none : (all i : ℕ) → n ≤ i → all / 2 ^ n ≡ 0 → Together rows n all i → ¬ Stray n rows
   stray-none all i h e inv s = none-from all n (s .j) e (s .j-above) (inv .bits (s .j) .1 (s .i, omega (arith, s .i-below), s .bit))
 
-  pub stray-some : (all i : ℕ) → n ≤ i → ¬ (all / 2 ^ n ≡ 0) → StrayInv all i → Stray n rows
+  pub stray-some : (all i : ℕ) → n ≤ i → ¬ (all / 2 ^ n ≡ 0) → Together rows n all i → Stray n rows
   stray-some all i h g inv = go (first-below Above above? 32)
     where
       Above : ℕ → Type 0

@@ -14,7 +14,8 @@ use Rattle.rules.specs.declared.Message.{Message}
 use Rattle.rules.specs.Rules.{MessageNo}
 use Rattle.rules.specs.Plan.{Word}
 use Rattle.rows.specs.Rows.{Bit}
-use Rattle.plan_listing.specs.PlanText.{messageNo, firstMessages}
+use Rattle.tables.specs.Cells.{number as messageNumber}
+use Rattle.plan_listing.specs.PlanText.{firstMessages}
 use Rattle.judge_listing.specs.JudgeText.{ShownStep, stepsFrom, stepsOf}
 use Rattle.judge_listing.specs.Steps.{nextPlace, stepOf, stepAt}
 
@@ -22,11 +23,11 @@ use Rattle.judge_listing.specs.Steps.{nextPlace, stepOf, stepAt}
 
 pub first-length : (n : ℕ) (l : List Message) → n ≤ length l → length (firstMessages n l) ≡ n
 unfolding firstMessages
-first-length n l h = length-map (take n l) messageNo ∙ length-take-le n l h
+first-length n l h = length-map (take n l) messageNumber ∙ length-take-le n l h
 
-pub first-at : (n : ℕ) (l : List Message) (i : ℕ) → i < n → getD (firstMessages n l) i 0 ≡ messageNo (getD l i (record { 0 = 0 }))
+pub first-at : (n : ℕ) (l : List Message) (i : ℕ) → i < n → getD (firstMessages n l) i 0 ≡ messageNumber (getD l i (record { 0 = 0 }))
 unfolding firstMessages
-first-at n l i h = List·getD-map messageNo (take n l) i (record { 0 = 0 }) ∙ ap messageNo (getD-take n l i (record { 0 = 0 }) h)
+first-at n l i h = List·getD-map messageNumber (take n l) i (record { 0 = 0 }) ∙ ap messageNumber (getD-take n l i (record { 0 = 0 }) h)
 
 -- ---- the place after one
 
@@ -48,7 +49,7 @@ next-below n i h = go (ltb (i + 1) n) refl
 
 -- the message at the place after i
 pub next-message : (n : ℕ) (l : List Message) (i k : ℕ) → n ≤ length l → k < n → k ≡ nextPlace n i
-    → messageNo (getD l k (record { 0 = 0 })) ≡ getD (firstMessages n l) (nextPlace (length (firstMessages n l)) i) 0
+    → messageNumber (getD l k (record { 0 = 0 })) ≡ getD (firstMessages n l) (nextPlace (length (firstMessages n l)) i) 0
 next-message n l i k h b e =
     sym (first-at n l k b) ∙ ap (λ (j : ℕ). getD (firstMessages n l) j 0) (e ∙ ap (λ (m : ℕ). nextPlace m i) (sym (first-length n l h)))
 

@@ -19,7 +19,7 @@ use Rattle.text.proofs.Written.{pasted-part, pasted-length, next-room, pasted-n
 use Rattle.tables.specs.declared.Kind.the-variants.{Req}
 use Rattle.tables.specs.declared.MessageRow.{MessageRow}
 use Rattle.tables.specs.Tables.{noMessage}
-use Rattle.tables.proofs.Stored.{getD-within}
+use Rattle.text.proofs.Parts.{getD-within}
 use Rattle.plan_listing.specs.PlanText.{nameAt}
 use Rattle.judge_listing.specs.declared.Step.{Step}
 use Rattle.judge_listing.specs.JudgeText.{ShownStep, stepsOf, stepLine, verdictHead, unfitText, stepText, stepTexts, wordText, pickWord, wordIn}

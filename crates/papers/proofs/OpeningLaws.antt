@@ -9,19 +9,13 @@ use lib.ListN.{length, take, drop, getD}
 use lib.Dec.{eqb}
 use borrow.Author.Tests.{eq-eqb, ne-eqb, eqb-true, lt-ltb, le-ltb, ltb-false, not-false}
 use Rattle.text.specs.Parts.{place, sameText, lines}
-use Rattle.text.proofs.Parts.{same-true, true-same}
+use Rattle.text.proofs.Parts.{same-true, true-same, getD-within}
 use Rattle.text.proofs.Lines.{lines-none}
 use Rattle.papers.specs.Checks.{check, refusal, none, firstOf}
 use Rattle.papers.specs.Lined.{Lined}
 use Rattle.papers.specs.Opening.{tooBig, noEnd, lastLine, beginsWith, wrongHeader, openingOf}
 use Rattle.papers.proofs.Checks.{first-given, first-passed, passed-by}
 use Rattle.papers.proofs.Walk.{NextLine, walk-next}
-
--- inside a list the default does not matter
-inside : (l : List ℕ) (i d k : ℕ) → i < length l → getD l i d ≡ getD l i k
-inside [] i d k h = absurd (omega arith)
-inside (x ∷ l) zero d k h = refl
-inside (x ∷ l) (suc i) d k h = inside l i d k (omega arith)
 
 -- What is known of a text that is not refused before its lines are read.
 pub record Opened (header text : List ℕ) : Type 0 where
@@ -53,7 +47,7 @@ module _ (header text : List ℕ) where
   no-end h k e =
       after-size h
       ∙ first-given (check 2 (lastLine text) (noEnd text)) (check 3 1 (wrongHeader header text) ∷ [])
-      (ap not (ne-eqb (getD text (length text - 1) 10) 10 (λ q. e (inside text (length text - 1) 0 10 (omega arith) ∙ q))))
+      (ap not (ne-eqb (getD text (length text - 1) 10) 10 (λ q. e (getD-within text (length text - 1) 0 10 (omega arith) ∙ q))))
 
   after-end : length text ≤ 49152 → getD text (length text - 1) 10 ≡ 10 → openingOf header text ≡ firstOf (check 3 1 (wrongHeader header text) ∷ [])
   after-end h e =
@@ -90,7 +84,7 @@ module _ (header text : List ℕ) where
         ap (beginsWith header) (whole .first) ∙ ap (λ (n : ℕ). sameText (take n text) header) (sub-zero (place 10 text 0 (length text)))
 
     ended : getD text (length text - 1) 10 ≡ 10
-    ended = inside text (length text - 1) 10 0 (omega arith) ∙ e
+    ended = getD-within text (length text - 1) 10 0 (omega arith) ∙ e
 
     pub wrong-line : sameText (take (place 10 text 0 (length text)) text) header ≡ false → openingOf header text ≡ refusal 3 1
     wrong-line q = wrong h ended (first-line ∙ q)
@@ -109,7 +103,7 @@ module _ (header text : List ℕ) where
       let first = begins header (lines text) (not-false (beginsWith header (lines text)) (d .0)) in
       let some = full text first in
       let last : getD text (length text - 1) 0 ≡ 10 =
-      inside text (length text - 1) 0 10 (omega arith) ∙ eqb-true (getD text (length text - 1) 10) 10 (not-false (eqb (getD text (length text - 1) 10) 10) (b .0)) in
+      getD-within text (length text - 1) 0 10 (omega arith) ∙ eqb-true (getD text (length text - 1) 10) 10 (not-false (eqb (getD text (length text - 1) 10) 10) (b .0)) in
       let next = walk-next text 0 (record { within = omega arith; last = λ g. last }) some in
       record {
         small = ltb-false 49152 (length text) (a .0);

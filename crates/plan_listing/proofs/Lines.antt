@@ -17,7 +17,8 @@ use Rattle.tables.specs.declared.MessageRow.{MessageRow}
 use Rattle.tables.specs.declared.Kind.the-variants.{Req}
 use Rattle.tables.specs.Tables.{noMessage}
 use Rattle.mapping.specs.Text.{mapFields, mapTexts}
-use Rattle.plan_listing.specs.PlanText.{numberLine, classHead, mapText, classThree, nameAt, namesText, cycleLine, classTwo, messageNo, firstMessages, firstNetworks, MessagesBelow}
+use Rattle.tables.specs.Cells.{number as messageNumber}
+use Rattle.plan_listing.specs.PlanText.{numberLine, classHead, mapText, classThree, nameAt, namesText, cycleLine, classTwo, firstMessages, firstNetworks, MessagesBelow}
 use Rattle.plan_listing.specs.Lengths.{TextLength}
 use Rattle.plan_listing.proofs.Growing.{grows}
 
@@ -91,8 +92,8 @@ namesTo rows cycle i = namesText rows (firstMessages i cycle)
 pub message-below : (e : Message) (cycle : List Message) (n i : ℕ) → i < n → e .0 ≡ 0 → MessagesBelow n (firstMessages n cycle) → getD cycle i e .0 < 32
 unfolding firstMessages
 message-below e cycle n i h z f =
-    let same : getD (map messageNo (take n cycle)) i 0 ≡ getD cycle i e .0 =
-    ap (getD (map messageNo (take n cycle)) i) (sym z) ∙ List·getD-map messageNo (take n cycle) i e ∙ ap messageNo (getD-take n cycle i e h) in
+    let same : getD (map messageNumber (take n cycle)) i 0 ≡ getD cycle i e .0 =
+    ap (getD (map messageNumber (take n cycle)) i) (sym z) ∙ List·getD-map messageNumber (take n cycle) i e ∙ ap messageNumber (getD-take n cycle i e h) in
     omega (arith, f i h, same)
 
 -- a row that is there is the same, whatever is read past the end

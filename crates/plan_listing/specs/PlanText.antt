@@ -11,6 +11,7 @@ use Rattle.text.specs.Words.{planHeader, classWord, networksWord, cycleWord, ta
 use Rattle.text.specs.Written.{decimal}
 use Rattle.tables.specs.declared.MessageRow.{MessageRow}
 use Rattle.tables.specs.Tables.{noMessage}
+use Rattle.tables.specs.Cells.{number}
 use Rattle.mapping.specs.Text.{mapFields, mapTexts}
 
 -- The name of message m.
@@ -48,18 +49,15 @@ classTwo rows cycle = classHead 2 ++ cycleLine rows cycle
 
 -- ---- the numbers that the code keeps in types of their own
 
-abbrev pub messageNo : Message → ℕ
-messageNo m = m .0
-
-abbrev pub networkNo : Network → ℕ
-networkNo n = n .0
+abbrev pub networkNumber : Network → ℕ
+networkNumber n = n .0
 
 -- The first n of these messages, or networks.
 unfoldable pub firstMessages : ℕ → List Message → List ℕ
-firstMessages n l = map messageNo (take n l)
+firstMessages n l = map number (take n l)
 
 unfoldable pub firstNetworks : ℕ → List Network → List ℕ
-firstNetworks n l = map networkNo (take n l)
+firstNetworks n l = map networkNumber (take n l)
 
 -- Each of the first n of these messages has a row.
 abbrev pub MessagesBelow : ℕ → List ℕ → Type 0

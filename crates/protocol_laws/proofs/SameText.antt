@@ -3,9 +3,11 @@ use Prim.Native.Nat.{ℕ, zero, suc, _-_}
 use mathlib.Core.Path.{_≡_, refl, sym, ap, _∙_}
 use mathlib.Core.Bool.{Bool, true, false}
 use mathlib.Core.List.{List, [], _∷_, _++_, map, append-assoc, append-nil}
+use native.Mathlib.Omega.{arith}
 use lib.ListN.{length, getD, drop}
 use lib.Dec.{eqb}
 use borrow.Author.Tests.{eqb-true, eqb-false}
+use Rattle.text.proofs.Parts.{getD-within}
 use Rattle.text.specs.Parts.{split, lines}
 use Rattle.text.specs.Words.{protocolHeader}
 use Rattle.papers.specs.declared.Refusal.{Refusal}
@@ -60,11 +62,6 @@ read-records k (l ∷ ls) t z e =
 
 -- ---- the text
 
-inside : (l : List ℕ) (i d k : ℕ) → getD l i d ≡ k → getD l i k ≡ k
-inside [] i d k e = refl
-inside (x ∷ l) zero d k e = e
-inside (x ∷ l) (suc i) d k e = inside l i d k e
-
 pub written : WrittenBack
 unfolding readProtocol protocolText
 written x e =
@@ -74,7 +71,7 @@ written x e =
     let rs = read-records 2 ls clearedTables sized-cleared (ap (λ (r : Reading). r .number) (sym (q .1)) ∙ e) in
     let all : records (readProtocol x .tables) ≡ map (split 9) ls =
     ap (λ (r : Reading). records (r .tables)) (q .1) ∙ rs ∙ ap (λ (a : List Line). a ++ map (split 9) ls) records-cleared in
-    sym (ended-lines x (inside x (length x - 1) 0 10 (o .last)))
+    sym (ended-lines x (getD-within x (length x - 1) 10 0 (omega (arith, o .some)) ∙ o .last))
     ∙ ap ended (o .first)
     ∙ ap (λ (m : List (List ℕ)). ended (protocolHeader ∷ m)) (sym (tabbed-fields ls) ∙ ap (map tabbed) (sym all))
 

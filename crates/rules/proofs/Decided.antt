@@ -97,5 +97,9 @@ chain-begins : (R : Rel) (a b : ℕ) (l : List ℕ) → Chain R a (l ++ b ∷ []
 chain-begins R a b [] c = c .0
 chain-begins R a b (x ∷ l) c = c .0
 
+-- one or more steps that lead back are a closed walk
+pub plus-closed : (R : Rel) (a : ℕ) → Plus R a a → (ms : List ℕ) × Closed R R ms
+plus-closed R a w = (a ∷ w .0, (chain-begins R a a (w .0) (w .1), w .1))
+
 pub cycle-closed : (p : Relations) → WaitsCycle p → (ms : List ℕ) × Closed (Waits p) (Waits p) ms
-cycle-closed p c = (c .0 ∷ c .1 .0, (chain-begins (Waits p) (c .0) (c .0) (c .1 .0) (c .1 .1), c .1 .1))
+cycle-closed p c = plus-closed (Waits p) (c .0) (c .1)

@@ -4,6 +4,7 @@ use mathlib.Core.Path.{_≡_, refl, sym, ap, _∙_}
 use mathlib.Core.Bool.{Bool, true, false, not}
 use mathlib.Core.List.{List}
 use native.Mathlib.Omega.{arith}
+use borrow.Author.Tests.{not-false}
 use Rattle.papers.specs.declared.Refusal.{Refusal}
 use Rattle.papers.specs.Checks.{firstOf}
 use Rattle.papers.proofs.Checks.{passed-by}
@@ -23,10 +24,6 @@ pub record Passed (s : Section) (t : Tables) (f : Line) : Type 0 where
   pub stable : stallInStable s t f ≡ false
   pub agrees : conflict s t f ≡ false
 
-not-not : (b : Bool) → not b ≡ false → b ≡ true
-not-not true e = refl
-not-not false e = sym e
-
 not-zero : (n : ℕ) → 0 < n → n ≡ 0 → ⊥
 not-zero n h e = omega arith
 
@@ -41,7 +38,7 @@ passed s t k f e =
     let p10 = passed-by _ _ (not-zero 10 (omega arith)) (p9 .1) in
     let p11 = passed-by _ _ (not-zero 11 (omega arith)) (p10 .1) in
     record {
-      shape = not-not (shaped s f) (p4 .0);
+      shape = not-false (shaped s f) (p4 .0);
       order = p5 .0;
       name = p6 .0;
       known = p7 .0;

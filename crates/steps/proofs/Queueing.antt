@@ -12,11 +12,11 @@ use Rattle.rows.specs.Rows.{Bit, Rows, ofRows}
 use Rattle.rows.specs.Row.{With, Join}
 use Rattle.rows.proofs.Bits.{bit-zero}
 use Rattle.rows.proofs.Filling.{Filling, fill-each, fill-kept}
-use Rattle.call.proofs.Tables.{StrayInv}
+use Rattle.rows.proofs.Together.{Together}
 use Rattle.steps.specs.Steps.{StepsRows, StalledRow, Behind, WithBehind, QueuesRow}
 
 -- all rows are taken in
-pub stalled-end : (stalls : List ℕ) (n all a : ℕ) → n ≤ a → StrayInv stalls n all a → StalledRow stalls n all
+pub stalled-end : (stalls : List ℕ) (n all a : ℕ) → n ≤ a → Together stalls n all a → StalledRow stalls n all
 stalled-end stalls n all a h inv k = (
   λ b. let t = inv .bits k .0 b in (t .0, omega (arith, t .1, inv .at-most), t .2),
   λ t. inv .bits k .1 (t .0, omega (arith, t .1), t .2),

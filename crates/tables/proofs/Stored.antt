@@ -4,7 +4,7 @@ use mathlib.Core.Path.{_≡_, refl, sym, subst, ap, _∙_}
 use mathlib.Core.List.{List, [], _∷_, _++_, map}
 use native.Mathlib.Numerals.{add-one}
 use native.Mathlib.Omega.{arith}
-use lib.ListN.{length, getD, take, drop, set, replicate, length-drop, length-replicate}
+use lib.ListN.{length, take, drop, set, replicate, length-drop, length-replicate}
 use lib.Seq.{take-suc-set, drop-set-lt, drop-drop}
 use Rattle.tables.specs.declared.MessageRow.{MessageRow}
 use Rattle.tables.specs.declared.EventRow.{EventRow}
@@ -15,12 +15,6 @@ use Rattle.tables.specs.Tables.{noMessage, noEvent, noState, noCell, cle
 use Rattle.tables.specs.Cells.{cellOf, cellsOf, Each, CellOk, TablesOk}
 use Rattle.tables.proofs.Gather.{each-snoc, each-map}
 use Rattle.tables.proofs.InRange.{cell-more}
-
--- what a list is read as past its end does not matter within it
-pub getD-within : {A : Type 0} (l : List A) (i : ℕ) (x y : A) → i < length l → getD l i x ≡ getD l i y
-getD-within [] i x y h = absurd (omega arith)
-getD-within (e ∷ l) zero x y h = refl
-getD-within (e ∷ l) (suc i) x y h = getD-within l i x y (omega arith)
 
 module _ {A : Type 0} where
   -- one more is stored behind those that were

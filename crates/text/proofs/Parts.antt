@@ -45,6 +45,12 @@ same-false l m h = go (sameText l m) refl
 pub same-lengths : (l m : List ℕ) → (length l ≡ length m → ⊥) → sameText l m ≡ false
 same-lengths l m h = same-false l m (λ e. h (ap length e))
 
+-- what a list is read as past its end does not matter within it
+pub getD-within : {A : Type 0} (l : List A) (i : ℕ) (x y : A) → i < length l → getD l i x ≡ getD l i y
+getD-within [] i x y h = absurd (omega arith)
+getD-within (e ∷ l) zero x y h = refl
+getD-within (e ∷ l) (suc i) x y h = getD-within l i x y (omega arith)
+
 module _ (l m : List ℕ) (i : ℕ) (h : i < length l) (k : i < length m) where
   heads : sameText (drop i l) (drop i m) ≡ (eqb (getD l i 0) (getD m i 0) && sameText (drop (i + 1) l) (drop (i + 1) m))
   unfolding sameText

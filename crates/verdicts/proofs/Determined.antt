@@ -11,11 +11,11 @@ use Rattle.rules.specs.declared.Network.{Network}
 use Rattle.rules.specs.Rules.{Relations}
 use Rattle.rules.proofs.Promises.{determined, one-class}
 use Rattle.tables.specs.declared.Tables.{Tables}
-use Rattle.tables.specs.Cells.{relationsOfTables}
+use Rattle.tables.specs.Cells.{relationsOfTables, number as messageNumber}
 use Rattle.tables.specs.Determined.{Determines}
-use Rattle.plan_listing.specs.PlanText.{messageNo, networkNo, firstMessages, firstNetworks}
+use Rattle.plan_listing.specs.PlanText.{networkNumber, firstMessages, firstNetworks}
 use Rattle.verdicts.specs.declared.Planned.{Planned}
-use Rattle.verdicts.specs.Verdicts.{noMessage, noNetwork, MessagesPast, NetworksPast, PlanIs, ClassThree, ClassTwo}
+use Rattle.verdicts.specs.Verdicts.{clearedMessage, clearedNetwork, MessagesPast, NetworksPast, PlanIs, ClassThree, ClassTwo}
 use Rattle.verdicts.specs.Leaves.{asMessage, asNetwork}
 
 pub messages-of-determined : (bytes : List ℕ) → Determines (λ (r : List Message). r ≡ map asMessage bytes)
@@ -23,11 +23,11 @@ messages-of-determined bytes r s p q = p ∙ sym q
 
 -- ---- arrays whose first numbers are told, and which are cleared past them
 
-as-messages : (l : List Message) → map asMessage (map messageNo l) ≡ l
+as-messages : (l : List Message) → map asMessage (map messageNumber l) ≡ l
 as-messages [] = refl
 as-messages (m ∷ l) = ap (λ (k : List Message). m ∷ k) (as-messages l)
 
-as-networks : (l : List Network) → map asNetwork (map networkNo l) ≡ l
+as-networks : (l : List Network) → map asNetwork (map networkNumber l) ≡ l
 as-networks [] = refl
 as-networks (n ∷ l) = ap (λ (k : List Network). n ∷ k) (as-networks l)
 
@@ -35,7 +35,7 @@ pub messages-one : (j k : ℕ) (l m : List Message) → j ≡ k → firstMessage
 unfolding firstMessages
 messages-one j k l m e f p q =
     sym (take-append-drop j l)
-    ∙ ap₂ _++_ (sym (as-messages (take j l)) ∙ ap (map asMessage) f ∙ as-messages (take k m)) (p ∙ ap (λ (i : ℕ). replicate (32 - i) noMessage) e ∙ sym q)
+    ∙ ap₂ _++_ (sym (as-messages (take j l)) ∙ ap (map asMessage) f ∙ as-messages (take k m)) (p ∙ ap (λ (i : ℕ). replicate (32 - i) clearedMessage) e ∙ sym q)
     ∙ take-append-drop k m
 
 networks-one : (n : ℕ) (l m : List Network) → firstNetworks n l ≡ firstNetworks n m → NetworksPast n l → NetworksPast n m → l ≡ m

@@ -16,7 +16,7 @@ use Rattle.rules.proofs.Decided.{waits-within}
 use Rattle.rules.proofs.Promises.{every-plan, one-class}
 use Rattle.rows.specs.Rows.{Rows}
 use Rattle.walks.specs.Walks.{Heights, Cycle}
-use Rattle.bare_plans.proofs.Plans.{plus-closed}
+use Rattle.rules.proofs.Decided.{plus-closed}
 use Rattle.tables.specs.declared.Tables.{Tables}
 use Rattle.tables.specs.Cells.{relationsOfTables}
 use Rattle.tables.proofs.InRange.{relations-accepted}

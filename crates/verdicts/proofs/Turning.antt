@@ -9,7 +9,7 @@ use lib.Seq.{take-suc, take-suc-set, take-all}
 use Rattle.rules.specs.declared.Message.{Message}
 use Rattle.rules.specs.declared.Network.{Network}
 use Rattle.verdicts.specs.declared.Planned.{Planned}
-use Rattle.verdicts.specs.Verdicts.{noMessage, noNetwork}
+use Rattle.verdicts.specs.Verdicts.{clearedMessage, clearedNetwork}
 use Rattle.verdicts.specs.Leaves.{asMessage, asNetwork, classThree, classTwo}
 
 module _ {A : Type 0} (f : ℕ → A) (bytes : List ℕ) where
@@ -40,10 +40,10 @@ module _ {A : Type 0} (f : ℕ → A) (bytes : List ℕ) where
 abbrev plan : ℕ → List Network → ℕ → List Message → Planned
 plan count networks length cycle = record { count = count; networks = networks; length = length; cycle = cycle }
 
-pub class-three-made : (count : ℕ) (bytes : List ℕ) (networks : List Network) → networks ≡ map asNetwork bytes → plan count networks 0 (replicate 32 noMessage) ≡ classThree count bytes
+pub class-three-made : (count : ℕ) (bytes : List ℕ) (networks : List Network) → networks ≡ map asNetwork bytes → plan count networks 0 (replicate 32 clearedMessage) ≡ classThree count bytes
 unfolding classThree
-class-three-made count bytes networks e = ap (λ (l : List Network). plan count l 0 (replicate 32 noMessage)) e
+class-three-made count bytes networks e = ap (λ (l : List Network). plan count l 0 (replicate 32 clearedMessage)) e
 
-pub class-two-made : (len : ℕ) (bytes : List ℕ) (cycle : List Message) → cycle ≡ map asMessage bytes → plan 0 (replicate 32 noNetwork) len cycle ≡ classTwo len bytes
+pub class-two-made : (len : ℕ) (bytes : List ℕ) (cycle : List Message) → cycle ≡ map asMessage bytes → plan 0 (replicate 32 clearedNetwork) len cycle ≡ classTwo len bytes
 unfolding classTwo
-class-two-made len bytes cycle e = ap (λ (l : List Message). plan 0 (replicate 32 noNetwork) len l) e
+class-two-made len bytes cycle e = ap (λ (l : List Message). plan 0 (replicate 32 clearedNetwork) len l) e

@@ -8,7 +8,7 @@ use Rattle.rules.specs.declared.Network.{Network}
 use Rattle.tables.specs.declared.Tables.{Tables}
 use Rattle.tables.specs.Cells.{relationsOfTables, TablesOk}
 use Rattle.verdicts.specs.declared.Planned.{Planned}
-use Rattle.verdicts.specs.Verdicts.{noMessage, noNetwork, WaitsOf, PlanIs}
+use Rattle.verdicts.specs.Verdicts.{clearedMessage, clearedNetwork, WaitsOf, PlanIs}
 
 abbrev pub asMessage : ℕ → Message
 asMessage n = record { 0 = n }
@@ -18,10 +18,10 @@ asNetwork n = record { 0 = n }
 
 -- A plan of class 3 and one of class 2, out of the bytes that were written.
 unfoldable pub classThree : ℕ → List ℕ → Planned
-classThree count bytes = record { count = count; networks = map asNetwork bytes; length = 0; cycle = replicate 32 noMessage }
+classThree count bytes = record { count = count; networks = map asNetwork bytes; length = 0; cycle = replicate 32 clearedMessage }
 
 unfoldable pub classTwo : ℕ → List ℕ → Planned
-classTwo length bytes = record { count = 0; networks = replicate 32 noNetwork; length = length; cycle = map asMessage bytes }
+classTwo length bytes = record { count = 0; networks = replicate 32 clearedNetwork; length = length; cycle = map asMessage bytes }
 
 -- r is the plan of all tables with n messages whose rows of waits these are.
 abbrev pub RowsPlan : List ℕ → ℕ → Planned → Type 0

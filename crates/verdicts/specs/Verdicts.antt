@@ -22,19 +22,19 @@ WaitsOf p rows = (b c : MessageNo) → Bit (getD rows b 0) c ↔ Waits p b c
 
 -- ---- what is past a count
 
-abbrev pub noMessage : Message
-noMessage = record { 0 = 0 }
+abbrev pub clearedMessage : Message
+clearedMessage = record { 0 = 0 }
 
-abbrev pub noNetwork : Network
-noNetwork = record { 0 = 0 }
+abbrev pub clearedNetwork : Network
+clearedNetwork = record { 0 = 0 }
 
 -- The messages from place n on are cleared.
 abbrev pub MessagesPast : ℕ → List Message → Type 0
-MessagesPast n l = drop n l ≡ replicate (32 - n) noMessage
+MessagesPast n l = drop n l ≡ replicate (32 - n) clearedMessage
 
 -- The networks from place n on are cleared.
 abbrev pub NetworksPast : ℕ → List Network → Type 0
-NetworksPast n l = drop n l ≡ replicate (32 - n) noNetwork
+NetworksPast n l = drop n l ≡ replicate (32 - n) clearedNetwork
 
 -- ---- a plan
 

@@ -1,21 +1,21 @@
 -- `call::stray` meets its contract. Assumes nothing.
 use Prim.Native.Nat.{_-_, _/_, _^_, _<_}
-use Prim.Native.Nat.{_-_, _/_, _^_}
 use native.Mathlib.Omega.{arith}
 use borrow.Author.Needs.{needs}
 use Rattle.call.specs.Tables.{Stray, rowsOf}
-use Rattle.call.proofs.Tables.{StrayInv, stray-start, stray-step, stray-full, stray-none, stray-some, told-no, told-differ, rows-at}
+use Rattle.rows.proofs.Together.{Together, together-start, together-step}
+use Rattle.call.proofs.Tables.{stray-full, stray-none, stray-some, told-no, told-differ, rows-at}
 use Rattle.call.proofs.stray.Statement.{statement}
 use Rattle.call.proofs.stray.Tie as tie
 
 abbrev Inv-loop : tie.InvT-loop
-Inv-loop table n all₀ i₀ all i = StrayInv (rowsOf table) n all i
+Inv-loop table n all₀ i₀ all i = Together (rowsOf table) n all i
 
 abbrev μ-loop : tie.MeasureT-loop
 μ-loop table n all₀ i₀ all i = n - i
 
 loop-holds : tie.Need-loop-holds Inv-loop μ-loop
-loop-holds c = let a = c .before .args in stray-start (rowsOf (a .table .now)) (a .n)
+loop-holds c = let a = c .before .args in together-start (rowsOf (a .table .now)) (a .n)
 
 row-at-requires : tie.Need-row-at-requires Inv-loop μ-loop
 row-at-requires c κs = omega arith
@@ -33,7 +33,7 @@ loop-again : tie.Need-loop-again Inv-loop μ-loop
 loop-again c =
     let l = c .before .before .before .loop in
     let a = c .before .before .before .before .before .args in
-    stray-step (rowsOf (a .table .now)) (a .n) (l .all) (l .i) (c .join .result) (omega arith)
+    together-step (rowsOf (a .table .now)) (a .n) (l .all) (l .i) (c .join .result) (omega arith)
     (rw (rows-at (a .table .now) (l .i) (omega arith), ← (c .before .row-at .ensures)) (c .join .ensures)) (let h : c .join .result < 2 ^ 32 = omega (arith, c .join .ok) in h) (l .inv)
 
 returns : tie.Need-returns Inv-loop μ-loop

@@ -15,7 +15,7 @@ use Rattle.tables.specs.Cells.{cellOf, cellsOf}
 use Rattle.tables.specs.Relations.{cellAt}
 use Rattle.tables.proofs.Gather.{↔-trans}
 use Rattle.tables.proofs.InRange.{cell-at}
-use Rattle.tables.proofs.Stored.{getD-within}
+use Rattle.text.proofs.Parts.{getD-within}
 use Rattle.entries.proofs.AtCell.{no-entry-row, zeroCell}
 use Rattle.entries.proofs.no_entry.Statement.{statement}
 use Rattle.entries.proofs.no_entry.Tie as tie

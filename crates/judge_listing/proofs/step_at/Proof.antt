@@ -3,7 +3,8 @@ use mathlib.Core.Path.{_≡_, sym, subst}
 use Prim.Native.Nat.{ℕ, _≤_, _<_}
 use lib.ListN.{length, getD}
 use native.Mathlib.Omega.{arith}
-use Rattle.plan_listing.specs.PlanText.{messageNo, firstMessages}
+use Rattle.tables.specs.Cells.{number as messageNumber}
+use Rattle.plan_listing.specs.PlanText.{firstMessages}
 use Rattle.judge_listing.proofs.Places.{first-at, next-below, next-message}
 use Rattle.judge_listing.proofs.StepLines.{step-line}
 use borrow.Author.Needs.{needs}
@@ -15,13 +16,13 @@ long : (c : tie.Start) → length (c .args .t2) ≡ 32
 long c = search needs
 
 -- both messages have a row
-from-below : (c : tie.Start) → messageNo (getD (c .args .t2) (c .args .i) (record { 0 = 0 })) < 32
+from-below : (c : tie.Start) → messageNumber (getD (c .args .t2) (c .args .i) (record { 0 = 0 })) < 32
 from-below c = subst (λ (m : ℕ). m < 32) (first-at (c .args .count) (c .args .t2) (c .args .i) (c .pre .1)) (c .pre .0 .messages (c .args .i) (c .pre .1))
 
 to-place : (c : tie.After-next-place) → c .next-place .result < c .before .before .args .count
 to-place c = omega (arith, c .next-place .ensures, next-below (c .before .before .args .count) (c .before .before .args .i) (c .before .before .pre .0 .some))
 
-to-below : (c : tie.After-next-place) → messageNo (getD (c .before .before .args .t2) (c .next-place .result) (record { 0 = 0 })) < 32
+to-below : (c : tie.After-next-place) → messageNumber (getD (c .before .before .args .t2) (c .next-place .result) (record { 0 = 0 })) < 32
 to-below c = subst (λ (m : ℕ). m < 32) (first-at (c .before .before .args .count) (c .before .before .args .t2) (c .next-place .result) (to-place c)) (c .before .before .pre .0 .messages (c .next-place .result) (to-place c))
 
 array-copy-out-from : tie.Need-array-copy-out-from

@@ -2,19 +2,19 @@
 use Prim.Native.Nat.{_-_, _<_, _^_}
 use native.Mathlib.Omega.{arith}
 use borrow.Author.Needs.{needs}
-use Rattle.call.proofs.Tables.{StrayInv, stray-start, stray-step}
+use Rattle.rows.proofs.Together.{Together, together-start, together-step}
 use Rattle.steps.proofs.Queueing.{stalled-end}
 use Rattle.steps.proofs.stalled_of.Statement.{statement}
 use Rattle.steps.proofs.stalled_of.Tie as tie
 
 abbrev Inv-loop : tie.InvT-loop
-Inv-loop n stalls all₀ a₀ all a = StrayInv stalls n all a
+Inv-loop n stalls all₀ a₀ all a = Together stalls n all a
 
 abbrev μ-loop : tie.MeasureT-loop
 μ-loop n stalls all₀ a₀ all a = n - a
 
 loop-holds : tie.Need-loop-holds Inv-loop μ-loop
-loop-holds c = stray-start (c .args .t1) (c .args .n)
+loop-holds c = together-start (c .args .t1) (c .args .n)
 
 mul-join : tie.Need-mul-join Inv-loop μ-loop
 mul-join c = omega arith
@@ -35,7 +35,7 @@ loop-again : tie.Need-loop-again Inv-loop μ-loop
 loop-again c =
     let s = c .before .before .before in
     let l = c .before .before .loop in
-    stray-step (s .args .t1) (s .args .n) (l .all) (l .a) (c .join .result) (omega arith) (c .join .ensures) (let h : c .join .result < 2 ^ 32 = omega (arith, c .join .ok) in h) (l .inv)
+    together-step (s .args .t1) (s .args .n) (l .all) (l .a) (c .join .result) (omega arith) (c .join .ensures) (let h : c .join .result < 2 ^ 32 = omega (arith, c .join .ok) in h) (l .inv)
 
 returns : tie.Need-returns Inv-loop μ-loop
 returns c =
