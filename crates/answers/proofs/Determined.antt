@@ -1,53 +1,49 @@
 -- The contracts of this crate leave one answer, and so does `Listed`, by which the listings are promised.
 use Prim.Native.Nat.{ℕ, _<_, _≤_}
-use mathlib.Core.Path.{_≡_, refl, sym, _∙_}
+use mathlib.Core.Path.{_≡_, refl}
 use mathlib.Core.Bool.{Bool, true, false}
 use mathlib.Core.List.{List}
 use lib.ListN.{length}
 use lib.Dec.{ltb}
 use borrow.Author.Tests.{ltb-true, ltb-false}
+use Rattle.determined.specs.Determined.{Determines, DeterminesLent}
+use Rattle.determined.proofs.Equal.{equal}
 use Rattle.answers.specs.declared.Answer.{Answer}
-use Rattle.answers.specs.Answers.{refusedAt, noRoom, finished, packedAnswer, Refused, Listed, ListedDetermined}
+use Rattle.answers.specs.Answers.{refusedAt, noRoom, finished, packedAnswer, Refused, Listed}
 use Rattle.text.specs.Written.{Wrote}
 use Rattle.text.proofs.Determined.{wrote-determined}
 use Rattle.answers.specs.RefusedText.{refusedText}
 
--- a contract that gives the result outright
-one-answer : {A : Type 0} {x r s : A} → r ≡ x → s ≡ x → r ≡ s
-one-answer p q = p ∙ sym q
+pub refused-determined : (number paper line : ℕ) → Determines (λ (r : Answer). r ≡ refusedAt number paper line)
+refused-determined number paper line = equal _
 
-pub refused-determined : (number paper line : ℕ) (r s : Answer) → r ≡ refusedAt number paper line → s ≡ refusedAt number paper line → r ≡ s
-refused-determined number paper line r s = one-answer
+pub no-room-determined : (needed : ℕ) → Determines (λ (r : Answer). r ≡ noRoom needed)
+no-room-determined needed = equal _
 
-pub no-room-determined : (needed : ℕ) (r s : Answer) → r ≡ noRoom needed → s ≡ noRoom needed → r ≡ s
-no-room-determined needed r s = one-answer
+pub finished-determined : (n : ℕ) → Determines (λ (r : Answer). r ≡ finished n)
+finished-determined n = equal _
 
-pub finished-determined : (n : ℕ) (r s : Answer) → r ≡ finished n → s ≡ finished n → r ≡ s
-finished-determined n r s = one-answer
+pub packed-determined : (a : Answer) → Determines (λ (r : ℕ). r ≡ packedAnswer a)
+packed-determined a = equal _
 
-pub packed-determined : (a : Answer) (r s : ℕ) → r ≡ packedAnswer a → s ≡ packedAnswer a → r ≡ s
-packed-determined a r s = one-answer
-
-pub put-refused-determined : (number paper line : ℕ) (old new new′ : List ℕ) (m n : ℕ) → Wrote (refusedText number paper line) old new m
-    → Wrote (refusedText number paper line) old new′ n → (m ≡ n) × (new ≡ new′)
+pub put-refused-determined : (number paper line : ℕ) (old : List ℕ) → DeterminesLent (Wrote (refusedText number paper line) old)
 put-refused-determined number paper line = wrote-determined (refusedText number paper line)
 
 -- ---- refusals
 
-pub refusal-determined : (number paper line : ℕ) (old new new′ : List ℕ) (r r′ : Answer) → Refused number paper line old new r
-    → Refused number paper line old new′ r′ → (r ≡ r′) × (new ≡ new′)
-refusal-determined number paper line old new new′ r r′ v w = (one-answer (v .answer) (w .answer), one-answer (v .bytes) (w .bytes))
+pub refusal-determined : (number paper line : ℕ) (old : List ℕ) → DeterminesLent (Refused number paper line old)
+refusal-determined number paper line old new new′ r r′ v w = (equal _ r r′ (v .answer) (w .answer), equal _ new new′ (v .bytes) (w .bytes))
 
 -- ---- listings
 
 module _ (listing old new new′ : List ℕ) (r r′ : Answer) (v : Listed listing old new r) (w : Listed listing old new′ r′) where
   short : length old < length listing → (r ≡ r′) × (new ≡ new′)
-  short h = (one-answer (v .no-room h .answer) (w .no-room h .answer), one-answer (v .no-room h .bytes) (w .no-room h .bytes))
+  short h = (equal _ r r′ (v .no-room h .answer) (w .no-room h .answer), equal _ new new′ (v .no-room h .bytes) (w .no-room h .bytes))
 
   long : length listing ≤ length old → (r ≡ r′) × (new ≡ new′)
-  long h = (one-answer (v .room h .answer) (w .room h .answer), one-answer (v .room h .bytes) (w .room h .bytes))
+  long h = (equal _ r r′ (v .room h .answer) (w .room h .answer), equal _ new new′ (v .room h .bytes) (w .room h .bytes))
 
-pub listed-determined : ListedDetermined
+pub listed-determined : (listing old : List ℕ) → DeterminesLent (Listed listing old)
 listed-determined listing old new new′ r r′ v w = go (ltb (length old) (length listing)) refl
   where
     go : (t : Bool) → ltb (length old) (length listing) ≡ t → (r ≡ r′) × (new ≡ new′)

@@ -1,8 +1,7 @@
 -- What a host reads out of a packed answer is the answer.
-use Prim.Native.Nat.{ℕ, _<_, _/_, _%_}
 use native.Mathlib.Omega.{arith}
 use Rattle.answers.specs.declared.Answer.{Answer}
-use Rattle.answers.specs.Answers.{Small, shownLength, packedAnswer, Unpacked}
+use Rattle.answers.specs.Answers.{Small, packedAnswer, Unpacked}
 
 pub unpack : (a : Answer) → Small a → Unpacked (packedAnswer a) a
 unfolding packedAnswer

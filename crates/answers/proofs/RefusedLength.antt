@@ -2,8 +2,6 @@
 use Prim.Native.Nat.{ℕ, _<_, _≤_}
 use native.Mathlib.Omega.{arith}
 use lib.ListN.{length, length-append}
-use Rattle.text.specs.Words.{refusedWord, tab, newline}
-use Rattle.text.specs.Written.{decimal}
 use Rattle.text.proofs.Written.{decimal-length}
 use Rattle.answers.specs.RefusedText.{tabbedNumber, refusedText}
 

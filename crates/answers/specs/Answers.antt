@@ -43,10 +43,6 @@ pub record Listed (listing old new : List ℕ) (r : Answer) : Type 0 where
   pub no-room : length old < length listing → NoRoom listing old new r
   pub room : length listing ≤ length old → Finished listing old new r
 
--- This leaves one answer, and one content of the lent bytes.
-abbrev pub ListedDetermined : Type 0
-ListedDetermined = (listing old new new′ : List ℕ) (r r′ : Answer) → Listed listing old new r → Listed listing old new′ r′ → (r ≡ r′) × (new ≡ new′)
-
 -- ---- the answer as one number
 
 abbrev pub pickNumber : Bool → ℕ → ℕ → ℕ

@@ -6,6 +6,7 @@ use mathlib.Core.List.{List, _++_}
 use native.Mathlib.Omega.{arith}
 use lib.ListN.{length, getD, drop}
 use lib.Seq.{ext-getD}
+use Rattle.determined.specs.Determined.{DeterminesLent}
 use Rattle.rules.specs.Rules.{Relations}
 use Rattle.rules.proofs.Promises.{determined, one-class}
 use Rattle.rows.specs.Rows.{ofRows}
@@ -40,6 +41,6 @@ module _ (p : Relations) where
         f .wrote .bytes ∙ ap₂ (λ (t : List ℕ) (k : ℕ). t ++ drop k old) (c .0) l ∙ sym (g .wrote .bytes),
       )
 
-pub plan-tables-one : (n : ℕ) (causes stalls old new new′ : List ℕ) (r s : RelationsAnswer) → TablesPlan n causes stalls old new r → TablesPlan n causes stalls old new′ s → (r ≡ s) × (new ≡ new′)
+pub plan-tables-one : (n : ℕ) (causes stalls old : List ℕ) → DeterminesLent (TablesPlan n causes stalls old)
 plan-tables-one n causes stalls old new new′ r s f g =
     planned-one (ofRows n (rowsOf causes) (rowsOf stalls)) old new new′ r s (f .number-0 ∙ sym (g .number-0)) (f .planned) (g .planned)

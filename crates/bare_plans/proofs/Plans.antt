@@ -1,17 +1,16 @@
 -- From rows of waits to what the rules say, and how the answer's bytes stand.
-use Prim.Native.Nat.{ℕ, zero, suc, _+_, _<_, _≤_, _/_, _%_, _^_}
+use Prim.Native.Nat.{ℕ, suc, _<_, _≤_}
 use mathlib.Core.Path.{_≡_, refl, sym, subst, ap, _∙_}
-use mathlib.Core.Logic.{_⊎_, inl, inr, ⊎-elim, _↔_}
-use mathlib.Core.List.{List, [], _∷_, _++_}
+use mathlib.Core.Logic.{inl, inr, ⊎-elim, _↔_}
+use mathlib.Core.List.{List, _++_}
 use native.Mathlib.Omega.{arith}
-use lib.ListN.{length, getD, take, drop}
+use lib.ListN.{length, getD, take, drop, take-append-drop}
 use lib.Seq.{getD-take, length-take-le}
-use Rattle.rules.specs.Walks.{Rel, Chain, Plus, Begins}
-use Rattle.rules.specs.Rules.{Relations, Waits}
-use Rattle.rules.specs.Plan.{Height, Printed, LongestChain, Closed, Shown, WaitsPairs}
-use Rattle.rules.proofs.Chains.{chain-map, plus-map}
+use Rattle.rules.specs.Rules.{Waits}
+use Rattle.rules.specs.Plan.{Height, Printed, LongestChain}
+use Rattle.rules.proofs.Chains.{plus-map}
 use Rattle.rules.proofs.Same.{height-same, pairs-same, shown-same}
-use Rattle.rules.proofs.Least.{least-count}
+use Rattle.rules.proofs.Least.{least-count, longest-from}
 use Rattle.rules.proofs.Decided.{waits-within}
 use Rattle.rules.proofs.Decided.{plus-closed}
 use Rattle.rows.specs.Rows.{Bit, Rows, ofRows}
@@ -56,15 +55,7 @@ module _ (n : ℕ) (causes stalls rows : List ℕ) (some-message : 0 < n) (same 
       chain : LongestChain (ofRows n causes stalls) networks
       chain =
           let g = t .greatest in
-          let top = printed (g .0) (g .1) in
-          record {
-            start = g .0;
-            message = g .1;
-            rest = top .rest;
-            chain = top .chain;
-            messages = ap suc (top .steps) ∙ g .2;
-            longest = λ m l h c. omega (arith, printed m h .longest l c, t .below m h);
-          }
+          longest-from (ofRows n causes stalls) (λ m. getD text m 0) printed (g .0) (g .1) (λ y h. omega (arith, t .below y h, g .2)) networks (g .2)
 
   class-2 : (text : List ℕ) (networks : ℕ) → Cycled n rows text networks → Class2 (ofRows n causes stalls) text networks
   class-2 text networks t = record {
@@ -92,16 +83,11 @@ same-waits n causes causes′ stalls stalls′ old rows e f w b c =
 
 -- ---- what is written
 
-take-drop : (k : ℕ) (l : List ℕ) → l ≡ take k l ++ drop k l
-take-drop zero l = refl
-take-drop (suc k) [] = refl
-take-drop (suc k) (x ∷ l) = ap (λ (t : List ℕ). x ∷ t) (take-drop k l)
-
 pub wrote-first : (k : ℕ) (old new : List ℕ) → length new ≡ length old → k ≤ length old → drop k new ≡ drop k old → Wrote (take k new) old new k
 wrote-first k old new long fits rest = record {
   long = sym (length-take-le k new (omega arith));
   fits = fits;
-  bytes = take-drop k new ∙ ap (λ (t : List ℕ). take k new ++ t) rest;
+  bytes = sym (take-append-drop k new) ∙ ap (λ (t : List ℕ). take k new ++ t) rest;
 }
 
 -- ---- the plan of the rows, from the walks

@@ -1,18 +1,17 @@
 -- The numbers and lines that the two readings tell.
-use Prim.Native.Nat.{ℕ, zero, suc, _+_, _-_, _≤_, _<_}
-use mathlib.Core.Path.{_≡_, refl, sym, ap, _∙_, subst}
+use Prim.Native.Nat.{ℕ, suc, _+_, _≤_, _<_}
+use mathlib.Core.Path.{_≡_, refl, sym, subst}
 use mathlib.Core.Bool.{Bool, true, false}
 use mathlib.Core.List.{List, [], _∷_, _++_}
 use mathlib.Core.Logic.{_⊎_, inl, inr, ⊎-elim}
 use native.Mathlib.Omega.{arith}
-use lib.ListN.{length, drop, take, length-map, length-take}
+use lib.ListN.{length, drop, length-map, length-take}
 use lib.Dec.{eqb, ltb}
 use borrow.Author.Tests.{ltb-true, ltb-false}
 use Rattle.text.specs.Parts.{split, lines}
 use Rattle.text.specs.Words.{protocolHeader, mappingHeader}
 use Rattle.text.proofs.Parts.{first-le}
 use Rattle.papers.specs.declared.Refusal.{Refusal}
-use Rattle.papers.specs.Checks.{refusal}
 use Rattle.papers.specs.Opening.{openingOf}
 use Rattle.papers.proofs.OpeningLaws.{too-big}
 use Rattle.tables.specs.declared.MessageRow.{MessageRow}

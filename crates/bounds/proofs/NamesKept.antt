@@ -1,7 +1,7 @@
 -- The names of an accepted text's messages.
 use Prim.Native.Nat.{ℕ, zero, suc, _+_, _≤_, _<_}
 use mathlib.Core.Path.{_≡_, refl, sym, ap, _∙_, subst}
-use mathlib.Core.Bool.{Bool, true, false, not}
+use mathlib.Core.Bool.{Bool, true, false}
 use mathlib.Core.List.{List, [], _∷_}
 use native.Mathlib.Omega.{arith}
 use lib.ListN.{length, getD, set, drop, replicate, length-set, length-replicate}
@@ -9,10 +9,9 @@ use lib.Seq.{getD-set-same, getD-set-other}
 use lib.Dec.{eqb}
 use borrow.Author.Tests.{leb-false, eqb-true, eqb-false, not-false}
 use Rattle.text.specs.Parts.{split, lines}
-use Rattle.text.specs.Name.{nameRule, nameText, nameOf}
+use Rattle.text.specs.Name.{nameRule, nameText}
 use Rattle.text.specs.Words.{protocolHeader}
 use Rattle.text.proofs.NameLaws.{name-text, rule-length}
-use Rattle.papers.specs.declared.Refusal.{Refusal}
 use Rattle.papers.specs.Opening.{openingOf}
 use Rattle.tables.specs.declared.MessageRow.{MessageRow}
 use Rattle.tables.specs.declared.Tables.{Tables}
@@ -22,7 +21,7 @@ use Rattle.records.specs.Checks.{badName, full, lineRefusal}
 use Rattle.whole.specs.declared.Reading.{Reading}
 use Rattle.sections.specs.Lines.{readLines, storedIn, stored}
 use Rattle.protocol.specs.Reading.{readProtocol}
-use Rattle.whole.specs.Whole.{unless, pickReading, refused, accepted, wholeRefusal}
+use Rattle.whole.specs.Whole.{accepted, wholeRefusal}
 use Rattle.sections.proofs.Passed.{passed}
 use Rattle.protocol_laws.proofs.SameText.{unless-number}
 use Rattle.bounds.specs.Bounds.{Named, NamesKept}

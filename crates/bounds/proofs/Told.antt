@@ -1,13 +1,13 @@
 -- The numbers and lines that checks tell.
-use Prim.Native.Nat.{ℕ, zero, suc, _+_, _-_, _≤_, _<_}
-use mathlib.Core.Path.{_≡_, refl, sym, ap, _∙_, subst}
-use mathlib.Core.Bool.{Bool, true, false, cond}
+use Prim.Native.Nat.{ℕ, _-_, _≤_}
+use mathlib.Core.Path.{_≡_, refl, sym, subst}
+use mathlib.Core.Bool.{Bool, true, false}
 use mathlib.Core.List.{List, [], _∷_, dropLast}
 use native.Mathlib.Omega.{arith}
 use lib.ListN.{length, drop, length-drop}
-use lib.Dec.{eqb}
-use Rattle.text.specs.Parts.{split, onto, howMany, lines}
+use Rattle.text.specs.Parts.{split, lines}
 use Rattle.text.proofs.Parts.{many-le}
+use Rattle.text.proofs.Lines.{split-many}
 use Rattle.papers.specs.declared.Refusal.{Refusal}
 use Rattle.papers.specs.Checks.{Check, firstOf}
 use Rattle.papers.specs.Opening.{openingChecks, openingOf}
@@ -31,20 +31,6 @@ first-low (c ∷ cs) h = go (c .given) refl (first-low cs (h .1))
 
 -- ---- how many lines there are
 
-length-onto : (x : ℕ) (ps : List (List ℕ)) (n : ℕ) → length ps ≡ suc n → length (onto x ps) ≡ suc n
-length-onto x [] n e = absurd (omega (arith, e))
-length-onto x (p ∷ ps) n e = e
-
-pub length-split : (b : ℕ) (l : List ℕ) → length (split b l) ≡ suc (howMany b l)
-unfolding split howMany
-length-split b [] = refl
-length-split b (x ∷ l) = go (eqb x b) (length-split b l)
-  where
-    go : (t : Bool) → length (split b l) ≡ suc (howMany b l)
-        → length (cond t ([] ∷ split b l) (onto x (split b l))) ≡ suc (cond t (suc (howMany b l)) (howMany b l))
-    go true e = ap suc e
-    go false e = length-onto x (split b l) (howMany b l) e
-
 length-dropLast : (ps : List (List ℕ)) → length (dropLast ps) ≡ length ps - 1
 length-dropLast [] = refl
 length-dropLast (p ∷ []) = refl
@@ -52,7 +38,7 @@ length-dropLast (p ∷ (q ∷ ps)) = omega (arith, length-dropLast (q ∷ ps))
 
 pub lines-le : (text : List ℕ) → length (drop 1 (lines text)) ≤ length text - 1
 unfolding lines
-lines-le text = omega (arith, length-drop 1 (dropLast (split 10 text)), length-dropLast (split 10 text), length-split 10 text, many-le 10 text)
+lines-le text = omega (arith, length-drop 1 (dropLast (split 10 text)), length-dropLast (split 10 text), split-many 10 text, many-le 10 text)
 
 -- ---- the opening
 

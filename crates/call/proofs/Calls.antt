@@ -1,21 +1,21 @@
 -- The call: its refusals, its answer, and how large its numbers are.
-use Prim.Native.Nat.{ℕ, zero, suc, _+_, _*_, _<_, _≤_, _/_, _%_, _^_}
+use Prim.Native.Nat.{ℕ, zero, suc, _*_, _<_, _≤_}
 use mathlib.Core.Path.{_≡_, refl, sym, subst, ap, _∙_}
 use mathlib.Core.Bool.{Bool, true, false}
-use mathlib.Core.Logic.{_⊎_, inl, inr, ⊎-elim, _↔_, _≢_}
-use mathlib.Core.List.{List, [], _∷_, _++_}
+use mathlib.Core.Logic.{_⊎_, inl, inr, _↔_, _≢_}
+use mathlib.Core.List.{List}
 use native.Mathlib.Decide.{ℕ-discrete, decLe}
 use native.Mathlib.Omega.{arith}
-use lib.ListN.{length, getD}
+use lib.ListN.{length}
 use Rattle.rules.specs.Walks.{Rel}
-use Rattle.rules.specs.Rules.{Relations, WaitsCycle}
+use Rattle.rules.specs.Rules.{WaitsCycle}
 use Rattle.rules.specs.Plan.{LeastCount, PlanCycle, Pairs}
 use Rattle.rules.specs.Promises.{GoodPlan}
 use Rattle.rules.proofs.Promises.{every-plan, shown-is-real, one-class, determined}
-use Rattle.rows.specs.Rows.{Bit, ofRows}
+use Rattle.rows.specs.Rows.{ofRows}
 use Rattle.rows.proofs.Given.{rows-accepted}
 use Rattle.call.specs.Tables.{rowsOf, Stray}
-use Rattle.call.specs.Call.{FirstOf, WrongCount, StrayBit, NoRoom, checks, Refused, Wrote, Class3, Class2, Planned, Call, packed, Packed, Unpacked}
+use Rattle.call.specs.Call.{FirstOf, WrongCount, StrayBit, NoRoom, checks, Class3, Class2, Planned, Call, packed, Packed, Unpacked}
 use Rattle.call.specs.Plans.{TablesPlan, Refusal}
 use Rattle.call.specs.declared.RelationsAnswer.{RelationsAnswer}
 use Rattle.waits.proofs.Waiting.{counts-le}

@@ -1,22 +1,21 @@
 -- The tables' rows: read, and searched for stray bits.
-use Prim.Native.Nat.{ℕ, zero, suc, _+_, _*_, _<_, _≤_, _/_, _%_, _^_}
-use mathlib.Core.Path.{_≡_, refl, sym, subst, ap, _∙_}
-use mathlib.Core.Bool.{Bool, true, false, not}
+use Prim.Native.Nat.{ℕ, zero, suc, _+_, _*_, _<_, _≤_, _/_, _^_}
+use mathlib.Core.Path.{_≡_, refl, sym, _∙_}
+use mathlib.Core.Bool.{true, false, not}
 use lib.Dec.{eqb}
 use borrow.Author.Tests.{eqb-false, ne-eqb, not-true}
-use mathlib.Core.Logic.{_⊎_, inl, inr, ⊎-elim, _↔_, _≢_}
+use mathlib.Core.Logic.{_⊎_, inl, inr, _↔_, _≢_}
 use mathlib.Core.List.{List, [], _∷_}
 use native.Mathlib.Decide.{ℕ-discrete, decLt}
 use native.Mathlib.Omega.{arith}
 use lib.ListN.{length, getD, set}
 use Rattle.rules.proofs.Search.{First, None, first-below}
 use Rattle.rows.specs.Rows.{Bit}
-use Rattle.rows.specs.Row.{Join}
-use Rattle.rows.proofs.Bits.{bit?, bit-zero, bit-below, none-from, from-none}
-use Rattle.rows.proofs.Filling.{Filling, fill-start, fill-step, fill-each, fill-kept}
+use Rattle.rows.proofs.Bits.{bit?, bit-below, none-from, from-none}
+use Rattle.rows.proofs.Filling.{Filling, fill-step, fill-each, fill-kept}
 use Rattle.rows.proofs.Together.{Together}
 use Rattle.call.specs.Call.{WrongCount}
-use Rattle.call.specs.Tables.{word, rowsOf, rowAt, Loaded, Stray}
+use Rattle.call.specs.Tables.{rowsOf, rowAt, Loaded, Stray}
 use Rattle.waits.specs.Waiting.{Tidy}
 
 -- ---- rows of 4 bytes

@@ -20,18 +20,9 @@ use Rattle.records.specs.Found.{foundController}
 use Rattle.records.proofs.Fields.{few, counted, many}
 use Rattle.records.proofs.Words.{controller-is, controller-nothing}
 use Rattle.records.proofs.Sections.{other-word}
+use Rattle.records.proofs.Both.{and-left, and-right}
 use Rattle.cell_shapes.specs.declared.Shape.the-variants.{Stall, Go, Wrong}
 use Rattle.cell_shapes.specs.Shape.{shapeOf, Stalls, Goes}
-
--- ---- both tests hold
-
-pub and-left : (a b : Bool) → (a && b) ≡ true → a ≡ true
-and-left true b e = refl
-and-left false b e = e
-
-pub and-right : (a b : Bool) → (a && b) ≡ true → b ≡ true
-and-right true b e = e
-and-right false b e = absurd (let z : _≡_ {A = ℕ} 0 1 = cc in omega arith)
 
 -- ---- the count of fields
 

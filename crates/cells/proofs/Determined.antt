@@ -5,6 +5,7 @@ use mathlib.Core.Bool.{Bool, true, false}
 use mathlib.Core.List.{List}
 use lib.Dec.{eqb}
 use borrow.Author.Tests.{eqb-true, eqb-false}
+use Rattle.determined.specs.Determined.{Determines}
 use Rattle.tables.specs.declared.MessageRow.{MessageRow}
 use Rattle.tables.specs.declared.EventRow.{EventRow}
 use Rattle.tables.specs.declared.StateRow.{StateRow}
@@ -41,8 +42,13 @@ module _ (line : List ℕ)
           let z : r .number ≡ 0 → ⊥ = eqb-false (r .number) 0 e in
           p .cleared z ∙ sym (q .cleared (λ y. z (number ∙ y)))
 
-  pub cell-line-one : r ≡ s
-  cell-line-one = same number cell
+  one : r ≡ s
+  one = same number cell
     where
       same : {m m′ : ℕ} {c c′ : Cell} → m ≡ m′ → c ≡ c′ → _≡_ {A = CellLine} (record { number = m; cell = c }) (record { number = m′; cell = c′ })
       same a b = cc
+
+pub cell-line-determined : (line : List ℕ)
+    (messages : List MessageRow) (message-count : ℕ) (events : List EventRow) (event-count : ℕ) (states : List StateRow) (state-count : ℕ)
+    (cells : List Cell) (count : ℕ) → Determines (CellTold line messages message-count events event-count states state-count cells count)
+cell-line-determined = one

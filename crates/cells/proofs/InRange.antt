@@ -25,10 +25,11 @@ use Rattle.records.specs.Line.{Line, field, says, cell, cellController, message
 use Rattle.records.specs.Checks.{shaped, isTrigger, isCache, allMessages, knownCell, stallInStable, conflict}
 use Rattle.records.proofs.Numbers.{lineNumber, refuses, refuses-one}
 use Rattle.records.proofs.Sections.{a-cell}
+use Rattle.records.proofs.Both.{and-left, and-right}
 use Rattle.cells.specs.declared.CellLine.{CellLine}
 use Rattle.cells.specs.Told.{CellTold}
 use Rattle.cell_shapes.specs.Shape.{Stalls, Goes}
-use Rattle.cell_shapes.proofs.Shapes.{and-left, and-right, shaped-way}
+use Rattle.cell_shapes.proofs.Shapes.{shaped-way}
 use Rattle.cells.proofs.Judging.{in-order}
 use Rattle.tables.proofs.Given.{given, given-declared}
 

@@ -6,6 +6,7 @@ use native.Mathlib.Decide.{ℕ-discrete}
 use native.Mathlib.Omega.{arith}
 use lib.ListN.{length, take, drop, take-append-drop}
 use lib.Seq.{length-take-le}
+use Rattle.determined.specs.Determined.{DeterminesLent}
 use Rattle.rules.proofs.Unique.{shown-one}
 use Rattle.rows.specs.Rows.{Rows}
 use Rattle.walks.specs.Walks.{Cycle}
@@ -21,7 +22,7 @@ module _ (w s : List ℕ) (n : ℕ) (old : List ℕ) (room : n ≤ length old) w
   unchanged : (new : List ℕ) (r : ℕ) → Cycle w s n old new r → r ≡ 0 → new ≡ old
   unchanged new r a z = subst (λ (k : ℕ). drop k new ≡ drop k old) z (a .rest)
 
-  pub cycle-one : (new new′ : List ℕ) (r r′ : ℕ) → Cycle w s n old new r → Cycle w s n old new′ r′ → (r ≡ r′) × (new ≡ new′)
+  pub cycle-one : DeterminesLent (Cycle w s n old)
   cycle-one new new′ r r′ a b = go (ℕ-discrete r 0)
     where
       go : Dec (r ≡ 0) → (r ≡ r′) × (new ≡ new′)

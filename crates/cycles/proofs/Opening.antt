@@ -1,19 +1,18 @@
 -- One start x of closed walks: how short they are.
 use Prim.Native.Nat.{ℕ, zero, suc, _+_, _-_, _<_, _≤_, _/_, _^_}
-use mathlib.Core.Path.{_≡_, refl, subst, _∙_}
+use mathlib.Core.Path.{_≡_, refl, subst}
 use mathlib.Core.Logic.{_↔_}
 use mathlib.Core.List.{List}
 use native.Mathlib.Decide.{ℕ-discrete, decLe}
 use native.Mathlib.Omega.{arith}
 use native.Mathlib.Numerals.{add-one}
-use lib.ListN.{length, getD, set, length-set}
-use lib.Seq.{getD-set-same, getD-set-other}
+use lib.ListN.{getD}
 use lib.Bits.{bitAnd}
 use Rattle.rules.specs.Walks.{Rel}
 use Rattle.rules.proofs.Picked.{Exactly}
 use Rattle.rows.specs.Rows.{Bit, Rows}
 use Rattle.rows.proofs.Bits.{bit-zero, bit-and, bit-test}
-use Rattle.walks.specs.Sets.{Into, Below, After, Goes, Opens, Shortest, Layers}
+use Rattle.walks.specs.Sets.{Below, After, Goes, Opens, Shortest}
 use Rattle.walks.proofs.Sets.{all-bits}
 
 -- ---- exactly k steps, with a step more at the end

@@ -6,6 +6,7 @@ use mathlib.Core.List.{List}
 use lib.ListN.{replicate}
 use lib.Dec.{eqb}
 use borrow.Author.Tests.{eqb-true, eqb-false}
+use Rattle.determined.specs.Determined.{Determines}
 use Rattle.text.specs.Parts.{split}
 use Rattle.tables.specs.declared.MessageRow.{MessageRow}
 use Rattle.tables.specs.declared.EventRow.{EventRow}
@@ -44,8 +45,7 @@ module _ {Row : Type 0} (m n : ℕ) (e : m ≡ n) (r s row none : Row) where
       go true q = f (eqb-true m 0 q) ∙ sym (h (sym e ∙ eqb-true m 0 q))
       go false q = g (eqb-false m 0 q) ∙ sym (k (λ z. eqb-false m 0 q (e ∙ z)))
 
-pub message-line-determined : (line : List ℕ) (messages : List MessageRow) (count : ℕ) (r s : MessageLine)
-    → MessageTold line messages count r → MessageTold line messages count s → r ≡ s
+pub message-line-determined : (line : List ℕ) (messages : List MessageRow) (count : ℕ) → Determines (MessageTold line messages count)
 message-line-determined line messages count r s p q =
     same number (rows-same (r .number) (s .number) number (r .row) (s .row) (messageOf (split 9 line)) noMessage (p .row) (p .cleared) (q .row) (q .cleared))
   where
@@ -61,8 +61,7 @@ message-line-determined line messages count r s p q =
     same : {a b : ℕ} {v w : MessageRow} → a ≡ b → v ≡ w → _≡_ {A = MessageLine} (record { number = a; row = v }) (record { number = b; row = w })
     same x y = cc
 
-pub event-line-determined : (line : List ℕ) (messages : List MessageRow) (many : ℕ) (events : List EventRow) (count : ℕ) (r s : EventLine)
-    → EventTold line messages many events count r → EventTold line messages many events count s → r ≡ s
+pub event-line-determined : (line : List ℕ) (messages : List MessageRow) (many : ℕ) (events : List EventRow) (count : ℕ) → Determines (EventTold line messages many events count)
 event-line-determined line messages many events count r s p q =
     same number (rows-same (r .number) (s .number) number (r .row) (s .row) (eventOf (split 9 line)) noEvent (p .row) (p .cleared) (q .row) (q .cleared))
   where
@@ -78,8 +77,7 @@ event-line-determined line messages many events count r s p q =
     same : {a b : ℕ} {v w : EventRow} → a ≡ b → v ≡ w → _≡_ {A = EventLine} (record { number = a; row = v }) (record { number = b; row = w })
     same x y = cc
 
-pub state-line-determined : (line : List ℕ) (states : List StateRow) (count : ℕ) (r s : StateLine)
-    → StateTold line states count r → StateTold line states count s → r ≡ s
+pub state-line-determined : (line : List ℕ) (states : List StateRow) (count : ℕ) → Determines (StateTold line states count)
 state-line-determined line states count r s p q =
     same number (rows-same (r .number) (s .number) number (r .row) (s .row) (stateOf (split 9 line)) noState (p .row) (p .cleared) (q .row) (q .cleared))
   where

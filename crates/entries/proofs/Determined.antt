@@ -3,10 +3,10 @@ use Prim.Native.Nat.{_<_}
 use mathlib.Core.Path.{_≡_}
 use mathlib.Core.Logic.{_⊎_, inl, inr}
 use native.Mathlib.Omega.{arith}
+use Rattle.determined.specs.Determined.{Determines}
 use Rattle.rules.proofs.Cycle.{compare}
 use Rattle.tables.specs.declared.Tables.{Tables}
 use Rattle.tables.specs.Relations.{FirstNoEntry}
-use Rattle.tables.specs.Determined.{Determines}
 
 pub no-entry-determined : (t : Tables) → Determines (FirstNoEntry t)
 no-entry-determined t r s p q = pick (compare r s)

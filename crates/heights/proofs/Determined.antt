@@ -5,6 +5,7 @@ use mathlib.Core.List.{List, [], _∷_, _++_}
 use native.Mathlib.Decide.{ℕ-discrete}
 use native.Mathlib.Omega.{arith}
 use lib.ListN.{length, getD, drop, length-append}
+use Rattle.determined.specs.Determined.{DeterminesLent}
 use Rattle.rules.specs.Walks.{Rel, Chain, Plus}
 use Rattle.rules.specs.Plan.{Height}
 use Rattle.rules.proofs.Cycle.{chain-join}
@@ -39,7 +40,7 @@ module _ (w : List ℕ) (n : ℕ) (old : List ℕ) where
       go (yes e) = e
       go (no d) = let c = s .cyclic z in absurd (no-height (Rows n w) (c .0) (getD new′ (c .0) 0) (c .1) (t .height d (c .0) (plus-below n w (c .0) (c .0) (c .1 .0) (c .1 .1))))
 
-  pub heights-one : (new new′ : List ℕ) (r r′ : ℕ) → Heights w n old new r → Heights w n old new′ r′ → (r ≡ r′) × (new ≡ new′)
+  pub heights-one : DeterminesLent (Heights w n old)
   heights-one new new′ r r′ s t = go (ℕ-discrete r 0)
     where
       go : Dec (r ≡ 0) → (r ≡ r′) × (new ≡ new′)

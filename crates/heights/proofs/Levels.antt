@@ -11,11 +11,12 @@ use lib.ListN.{length, getD, set, drop, length-set}
 use lib.Seq.{getD-set-same, getD-set-other, drop-set-lt}
 use lib.Bits.{bitAnd}
 use lib.Count.{trailingZeros}
-use Rattle.rules.specs.Lists.{_∈_, Distinct}
+use Rattle.rules.specs.Lists.{Distinct}
 use Rattle.rules.specs.Walks.{Rel, Chain, Plus}
 use Rattle.rules.specs.Plan.{Height}
 use Rattle.rules.proofs.Pigeon.{at-most}
 use Rattle.rules.proofs.Cycle.{distinct-or, Repeat, chain-left, chain-right}
+use Rattle.rules.proofs.Heights.{chain-in}
 use Rattle.rows.specs.Rows.{Bit, Rows}
 use Rattle.rows.proofs.Bits.{bit-zero, bit-test, lowest}
 use Rattle.walks.specs.Walks.{Heights}
@@ -56,12 +57,6 @@ module _ (R : Rel) (n : ℕ) (within : (a b : ℕ) → R a b → (a < n) × (b <
   steps-stay k f zero m s = subst (λ (i : ℕ). Steps R n i m) (sym (zero-add k)) s
   steps-stay k f (suc j) m s = let t = f m s in subst (λ (i : ℕ). Steps R n i m) (sym (suc-add j k)) (t .0, t .1, steps-stay k f j (t .0) (t .2))
 
-  chain-in : (m : ℕ) (l : List ℕ) → m < n → Chain R m l → (x : ℕ) → x ∈ (m ∷ l) → x < n
-  chain-in m [] h c x (inl e) = rw e h
-  chain-in m [] h c x (inr i) = absurd i
-  chain-in m (b ∷ l) h c x (inl e) = rw e h
-  chain-in m (b ∷ l) h c x (inr i) = chain-in b l (within m b (c .0) .1) (c .1) x i
-
   abbrev ChainL : List ℕ → Type 0
   ChainL [] = Unit {0}
   ChainL (m ∷ l) = Chain R m l
@@ -78,7 +73,7 @@ module _ (R : Rel) (n : ℕ) (within : (a b : ℕ) → R a b → (a < n) × (b <
       t = steps-chain n m s
 
       go : Distinct (m ∷ t .0) ⊎ Repeat (m ∷ t .0) → (a : ℕ) × Plus R a a
-      go (inl d) = absurd (omega (arith, at-most n (m ∷ t .0) d (chain-in m (t .0) (steps-small n m s) (t .1)), t .2))
+      go (inl d) = absurd (omega (arith, at-most n (m ∷ t .0) d (chain-in R n within m (t .0) (steps-small n m s) (t .1)), t .2))
       go (inr r) = (r .x, goes-round (r .u) (r .x) (r .v) (r .w) (subst ChainL (r .is) (t .1)))
 
 -- ---- the loop of `rounds`

@@ -1,13 +1,13 @@
 -- The judging call is determined: answer and lent bytes.
 use Prim.Native.Nat.{ℕ}
 use mathlib.Core.Path.{_≡_, refl, sym, ap, ap₂, _∙_, subst}
-use mathlib.Core.Logic.{_⊎_, inl, inr}
+use mathlib.Core.Logic.{inl, inr}
 use mathlib.Core.Bool.{Bool, true, false}
 use mathlib.Core.List.{List, [], _∷_, _++_}
 use lib.Dec.{eqb}
 use borrow.Author.Tests.{eqb-true, eqb-false}
 use Rattle.rules.specs.Rules.{MessageNo, Relations, Mapping}
-use Rattle.rules.specs.Plan.{Word, Says}
+use Rattle.rules.specs.Plan.{Says}
 use Rattle.rules.proofs.Promises.{determined}
 use Rattle.text.specs.Written.{Wrote}
 use Rattle.text.proofs.Determined.{wrote-determined}
@@ -20,9 +20,9 @@ use Rattle.answers.specs.Answers.{Listed, packedAnswer}
 use Rattle.judge_listing.specs.JudgeText.{ShownStep, unfitText}
 use Rattle.verdicts.specs.Verdicts.{mappingOf}
 use Rattle.answers.proofs.Determined.{refusal-determined, listed-determined}
-use Rattle.judge.specs.Call.{Shows, ShowsAll, FitListing, UnfitListing, JudgeListing, Judged, mappedFor, AfterProtocol, Call, Packed}
+use Rattle.judge.specs.Call.{Shows, ShowsAll, UnfitListing, JudgeListing, Judged, mappedFor, AfterProtocol}
 use Rattle.judge.specs.Determined.{JudgeDetermined, PackedDetermined, PrintedDetermined}
-use Rattle.judge.specs.Printed.{MappingPrinted, JudgePrinted}
+use Rattle.judge.specs.Printed.{MappingPrinted}
 
 -- ---- the steps
 

@@ -1,18 +1,17 @@
 -- What was found out and written is a judgement.
-use Prim.Native.Nat.{ℕ, _<_, _/_, _%_, _^_}
+use Prim.Native.Nat.{ℕ, _/_, _%_, _^_}
 use mathlib.Core.Path.{_≡_, refl, ap, sym, _∙_, subst}
 use mathlib.Core.Bool.{Bool, true, false}
-use mathlib.Core.Logic.{_≢_, inl, inr, _⊎_, ⊎-elim, _↔_}
+use mathlib.Core.Logic.{_≢_, inl, inr, ⊎-elim}
 use mathlib.Core.List.{List, [], _∷_, _++_}
 use native.Mathlib.Omega.{arith}
 use lib.ListN.{getD}
 use lib.Dec.{eqb}
 use borrow.Author.Tests.{eqb-true, eqb-false}
 use Rattle.rules.specs.Walks.{Chain}
-use Rattle.rules.specs.Rules.{MessageNo, Relations, Mapping, Waits, Queues, Step}
-use Rattle.rules.specs.Plan.{JudgeCycle, Closed, Says, waits, queues}
+use Rattle.rules.specs.Rules.{MessageNo, Relations, Mapping, Waits, Step}
+use Rattle.rules.specs.Plan.{Closed, Says, waits}
 use Rattle.rules.proofs.Promises.{shown-is-real}
-use Rattle.rows.specs.Rows.{Bit}
 use Rattle.tables.specs.declared.Tables.{Tables}
 use Rattle.tables.specs.Cells.{relationsOfTables}
 use Rattle.answers.specs.declared.Answer.{Answer}

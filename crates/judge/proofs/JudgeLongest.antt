@@ -1,6 +1,6 @@
 -- How long a judgement's listing can be, and how large the numbers of an answer.
-use Prim.Native.Nat.{ℕ, suc, _<_, _≤_}
-use mathlib.Core.Path.{_≡_, refl, sym, ap, _∙_, subst}
+use Prim.Native.Nat.{ℕ, suc, _≤_}
+use mathlib.Core.Path.{_≡_, refl, sym, ap, subst}
 use mathlib.Core.Logic.{_⊎_, inl, inr}
 use mathlib.Core.Bool.{Bool, true, false}
 use mathlib.Core.List.{List, [], _∷_, _++_}
@@ -12,11 +12,9 @@ use Rattle.rules.specs.Rules.{MessageNo, Relations, Mapping, Fit, Unfit}
 use Rattle.rules.specs.Plan.{JudgeCycle}
 use Rattle.rules.specs.Promises.{Accepted}
 use Rattle.rules.proofs.Promises.{every-judgement, determined, shown-is-real}
-use Rattle.tables.specs.declared.Tables.{Tables}
 use Rattle.tables.specs.Tables.{messagesOf}
 use Rattle.tables.specs.Cells.{relationsOfTables}
 use Rattle.protocol.specs.Reading.{readProtocol}
-use Rattle.protocol_laws.specs.Promises.{AcceptedReading}
 use Rattle.protocol_laws.proofs.Accepted.{accepted-kept}
 use Rattle.bounds.proofs.NamesKept.{names-kept}
 use Rattle.bounds.proofs.Bounds.{protocol-low, mapping-low}
@@ -27,7 +25,7 @@ use Rattle.judge_listing.specs.JudgeText.{ShownStep}
 use Rattle.judge_listing.proofs.Longest.{fit-length, longest-unfit}
 use Rattle.verdicts.specs.Verdicts.{mappingOf}
 use Rattle.plan.proofs.PlanLongest.{small-refused, small-listed}
-use Rattle.judge.specs.Call.{Shows, ShowsAll, JudgeListing, mappedFor, AfterProtocol, Call, Packed}
+use Rattle.judge.specs.Call.{Shows, ShowsAll, mappedFor, AfterProtocol}
 use Rattle.judge.specs.Longest.{JudgeLength, JudgeSmall, JudgeUnpacked}
 
 -- ---- as many steps as messages

@@ -1,7 +1,7 @@
 -- What was answered and written is what is printed.
 use Prim.Native.Nat.{ℕ, _<_, _≤_}
 use mathlib.Core.Path.{_≡_, refl, sym, ap, _∙_, subst}
-use mathlib.Core.Logic.{_≢_, _⊎_, inl, inr, ⊎-elim}
+use mathlib.Core.Logic.{_≢_}
 use mathlib.Core.Bool.{Bool, true, false}
 use mathlib.Core.List.{List}
 use native.Mathlib.Omega.{arith}
@@ -16,13 +16,13 @@ use Rattle.mapping.specs.declared.Mapped.{Mapped}
 use Rattle.bounds.specs.Bounds.{Low}
 use Rattle.bounds.proofs.Bounds.{protocol-low, mapping-low}
 use Rattle.answers.specs.declared.Answer.{Answer}
-use Rattle.answers.specs.Answers.{Refused, Listed}
+use Rattle.answers.specs.Answers.{Refused}
 use Rattle.answers.specs.RefusedText.{refusedText}
 use Rattle.answers.proofs.RefusedLength.{refused-short}
 use Rattle.verdicts.specs.Verdicts.{mappingOf}
 use Rattle.plan.proofs.Printing.{listed-wrote, refused-parts}
-use Rattle.judge.specs.Call.{Judged, mappedFor, AfterProtocol, Call}
-use Rattle.judge.specs.Printed.{MappingPrinted, JudgePrinted}
+use Rattle.judge.specs.Call.{Judged, mappedFor, Call}
+use Rattle.judge.specs.Printed.{JudgePrinted}
 use Rattle.judge.proofs.JudgeLongest.{judge-length}
 
 -- ---- the three answers

@@ -1,15 +1,14 @@
 -- The promises for texts hold: demand 3 through the calls.
-use Prim.Native.Nat.{ℕ, zero, suc, _+_, _-_, _<_, _≤_}
-use mathlib.Core.Path.{_≡_, refl, sym, ap, _∙_, subst}
-use mathlib.Core.Logic.{_⊎_, inl, inr, ⊎-elim}
-use mathlib.Core.Bool.{true}
-use mathlib.Core.List.{List, [], _∷_, _++_, map}
+use Prim.Native.Nat.{ℕ, _-_, _<_, _≤_}
+use mathlib.Core.Path.{_≡_, sym, ap, _∙_, subst}
+use mathlib.Core.Logic.{inl, inr, ⊎-elim}
+use mathlib.Core.List.{List, _++_}
 use native.Mathlib.Omega.{arith}
-use lib.ListN.{length, getD, take, replicate, List·getD-map}
+use lib.ListN.{length, getD, replicate, List·getD-map}
 use lib.Seq.{length-take-le, getD-take}
 use Rattle.rules.specs.declared.Network.{Network}
-use Rattle.rules.specs.Rules.{MessageNo, NetworkNo, Relations, Mapping, Waits, Fit, Unfit, WaitsCycle}
-use Rattle.rules.specs.Plan.{Height, LeastCount, Printed, Uses, PlanCycle, LongestChain}
+use Rattle.rules.specs.Rules.{MessageNo, Relations, Waits, Fit}
+use Rattle.rules.specs.Plan.{Height, LeastCount, Printed, Uses, LongestChain}
 use Rattle.rules.proofs.Promises.{every-printed, shown-is-real, cycle-is-unfit}
 use Rattle.text.specs.Name.{nameRule, nameText}
 use Rattle.tables.specs.declared.MessageRow.{MessageRow}
@@ -20,19 +19,17 @@ use Rattle.protocol.specs.Reading.{readProtocol}
 use Rattle.protocol_laws.specs.Promises.{AcceptedReading}
 use Rattle.protocol_laws.proofs.Accepted.{accepted-kept}
 use Rattle.mapping.specs.declared.Mapped.{Mapped}
-use Rattle.mapping.specs.Reading.{readMapping, accepted, networkNo}
+use Rattle.mapping.specs.Reading.{accepted, networkNo}
 use Rattle.mapping.specs.Text.{mappingText, Writable}
 use Rattle.mapping_laws.proofs.RoundTrip.{reads-back}
 use Rattle.mapping_laws.proofs.Why.{pad-at}
-use Rattle.answers.specs.declared.Answer.{Answer}
 use Rattle.answers.specs.Answers.{Listed}
-use Rattle.judge_listing.specs.JudgeText.{ShownStep, fitText, unfitText}
 use Rattle.verdicts.specs.Verdicts.{mappingOf}
 use Rattle.bounds.specs.Bounds.{Named}
 use Rattle.bounds.proofs.NamesKept.{names-kept}
 use Rattle.plan.proofs.PlanLongest.{networks-below}
-use Rattle.plan.specs.Call.{Three, Two, Planned, Call as PlanCall}
-use Rattle.judge.specs.Call.{FitListing, UnfitListing, Judged, Call as JudgeCall}
+use Rattle.plan.specs.Call.{Three, Two}
+use Rattle.judge.specs.Call.{FitListing, UnfitListing}
 use Rattle.judge.specs.Promises.{tablesOf, mapped, JudgedFit, JudgedUnfit, TextUses, ThreeKept, TwoKept, PlansKept}
 
 -- ---- an accepted protocol

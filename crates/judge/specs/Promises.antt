@@ -1,9 +1,8 @@
 -- Demand 3 for texts, through the calls: what a plan says, judgements agree with. proofs/Promises.antt has a term of each type.
-use Prim.Native.Nat.{ℕ, _<_, _≤_}
+use Prim.Native.Nat.{ℕ, _<_}
 use mathlib.Core.Path.{_≡_}
 use mathlib.Core.Logic.{_⊎_}
 use mathlib.Core.List.{List}
-use lib.ListN.{length}
 use Rattle.rules.specs.Rules.{MessageNo, NetworkNo}
 use Rattle.rules.specs.Plan.{Uses, LongestChain}
 use Rattle.tables.specs.declared.Tables.{Tables}

@@ -1,14 +1,10 @@
 -- Texts written one after another.
 use mathlib.Core.List.{List, _++_}
 use Prim.Native.Nat.{ℕ, _+_, _≤_}
-use native.Mathlib.Omega.{arith}
-use lib.ListN.{length, length-append}
+use lib.ListN.{length}
+use Rattle.plan_listing.proofs.Growing.{front-room}
 use Rattle.text.specs.Written.{Wrote, Pasted}
 use Rattle.text.proofs.Written.{more-room, then-more}
-
--- room for a text is room for its front
-pub front-room : (p q old : List ℕ) → length (p ++ q) ≤ length old → length p ≤ length old
-front-room p q old h = omega (arith, length-append p q)
 
 -- four texts, the first at the front
 module _ (p q r s old : List ℕ) (room : length (((p ++ q) ++ r) ++ s) ≤ length old) where

@@ -1,14 +1,13 @@
 -- How long a judgement's listing can be.
-use mathlib.Core.Path.{_≡_, refl, sym, ap, _∙_}
-use mathlib.Core.List.{List, [], _∷_, _++_}
-use Prim.Native.Nat.{ℕ, suc, _+_, _*_, _≤_}
+use mathlib.Core.Path.{refl}
+use mathlib.Core.List.{List, [], _∷_}
+use Prim.Native.Nat.{_*_, _≤_}
 use native.Mathlib.Omega.{arith}
-use lib.ListN.{length, take, getD, length-append, length-take, length-map}
+use lib.ListN.{length, length-append}
 use Rattle.rules.specs.Plan.{Word, waits, queues}
 use Rattle.tables.specs.declared.MessageRow.{MessageRow}
-use Rattle.tables.specs.Tables.{noMessage}
 use Rattle.plan_listing.specs.PlanText.{nameAt}
-use Rattle.judge_listing.specs.JudgeText.{ShownStep, stepLine, wordText, wordIn, verdictHead, fitText, stepText, stepTexts}
+use Rattle.judge_listing.specs.JudgeText.{ShownStep, stepLine, wordText, verdictHead, fitText, stepText, stepTexts}
 use Rattle.plan_listing.specs.Lengths.{ShortNames}
 use Rattle.judge_listing.specs.Longest.{FitLength, LongestUnfit}
 use Rattle.judge_listing.proofs.StepLines.{unfit-length}

@@ -1,9 +1,9 @@
 -- The lines of the steps: one after another, their lengths, and how they are written.
 use mathlib.Core.Path.{_≡_, refl, sym, ap, ap₂, _∙_, subst}
-use mathlib.Core.Bool.{Bool, true, false}
+use mathlib.Core.Bool.{Bool, true}
 use mathlib.Core.Logic.{_↔_}
 use mathlib.Core.List.{List, [], _∷_, _++_, append-assoc, append-nil}
-use Prim.Native.Nat.{ℕ, zero, suc, _+_, _-_, _≤_, _<_}
+use Prim.Native.Nat.{ℕ, _+_, _-_, _≤_, _<_}
 use native.Mathlib.Omega.{arith}
 use native.Mathlib.Numerals.{add-one}
 use lib.ListN.{length, take, drop, getD, length-append, length-take, take-append-drop}
@@ -23,7 +23,7 @@ use Rattle.text.proofs.Parts.{getD-within}
 use Rattle.plan_listing.specs.PlanText.{nameAt}
 use Rattle.judge_listing.specs.declared.Step.{Step}
 use Rattle.judge_listing.specs.JudgeText.{ShownStep, stepsOf, stepLine, verdictHead, unfitText, stepText, stepTexts, wordText, pickWord, wordIn}
-use Rattle.judge_listing.specs.Steps.{nextPlace, stepOf, stepAt, lineOf}
+use Rattle.judge_listing.specs.Steps.{nextPlace, stepAt, lineOf}
 use Rattle.judge_listing.proofs.Places.{steps-length, steps-at, bit-test}
 
 -- the header's line, and the verdict's

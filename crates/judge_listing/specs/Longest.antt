@@ -1,5 +1,5 @@
 -- "Every program lends room for the longest answer within the limits." How long a judgement's listing can be.
-use Prim.Native.Nat.{ℕ, _≤_}
+use Prim.Native.Nat.{_≤_}
 use mathlib.Core.Path.{_≡_}
 use mathlib.Core.List.{List}
 use lib.ListN.{length}

@@ -1,29 +1,24 @@
 -- The contract determines the judgement: two that it allows are equal.
-use Prim.Native.Nat.{ℕ}
 use mathlib.Core.Path.{_≡_, sym, ap, _∙_}
 use mathlib.Core.Logic.{_⊎_, inl, inr}
 use mathlib.Core.List.{List}
-use lib.ListN.{length, getD}
-use lib.Seq.{ext-getD}
-use Rattle.rules.specs.declared.Message.{Message}
+use lib.ListN.{length}
+use Rattle.determined.specs.Determined.{Determines}
 use Rattle.rules.specs.declared.Network.{Network}
 use Rattle.rules.specs.Rules.{Relations, Mapping}
 use Rattle.rules.proofs.Promises.{determined, shown-is-real}
-use Rattle.rows.proofs.Determined.{told-one}
+use Rattle.rows.specs.Determined.{Words}
+use Rattle.rows.proofs.Determined.{words-one}
 use Rattle.tables.specs.declared.Tables.{Tables}
 use Rattle.tables.specs.Cells.{relationsOfTables}
-use Rattle.tables.specs.Determined.{Words}
 use Rattle.plan_listing.specs.PlanText.{firstMessages}
 use Rattle.verdicts.specs.declared.Judged.{Judged}
-use Rattle.verdicts.specs.Verdicts.{mappingOf, WaitsOf, Fitting, Unfitting, JudgedIs}
+use Rattle.verdicts.specs.Verdicts.{mappingOf, Fitting, Unfitting, JudgedIs}
 use Rattle.verdicts.proofs.Determined.{messages-one}
 
 same-judgement : (r s : Judged) → r .length ≡ s .length → r .cycle ≡ s .cycle → r .waits ≡ s .waits → r ≡ s
 same-judgement r s a b c =
     let t : _≡_ {A = Judged} (record { length = r .length; cycle = r .cycle; waits = r .waits }) (record { length = s .length; cycle = s .cycle; waits = s .waits }) = cc in t
-
-waits-one : (p : Relations) (r s : List ℕ) → Words 32 r → Words 32 s → WaitsOf p r → WaitsOf p s → r ≡ s
-waits-one p r s u v f g = ext-getD 0 r s (u .long ∙ sym (v .long)) (λ i h. told-one _ 32 (getD r i 0) (getD s i 0) (u .small i) (v .small i) (f i) (g i))
 
 module _ (p : Relations) (φ : Mapping) (r s : Judged) where
   cycle-one : Fitting p φ r ⊎ Unfitting p φ r → Fitting p φ s ⊎ Unfitting p φ s → (r .length ≡ s .length) × (r .cycle ≡ s .cycle)
@@ -41,8 +36,8 @@ module _ (p : Relations) (φ : Mapping) (r s : Judged) where
   -- their rows are arrays of words
   pub judged-one : Words 32 (r .waits) → Words 32 (s .waits) → JudgedIs p φ r → JudgedIs p φ s → r ≡ s
   judged-one u v f g =
-      let c = cycle-one (f .verdict) (g .verdict) in same-judgement r s (c .0) (c .1) (waits-one p (r .waits) (s .waits) u v (f .waits) (g .waits))
+      let c = cycle-one (f .verdict) (g .verdict) in same-judgement r s (c .0) (c .1) (words-one 32 _ (r .waits) (s .waits) u v (f .waits) (g .waits))
 
-pub judge-of-determined : (t : Tables) (networks : List Network) (r s : Judged) → Words 32 (r .waits) → Words 32 (s .waits)
-    → JudgedIs (relationsOfTables t) (mappingOf networks) r → JudgedIs (relationsOfTables t) (mappingOf networks) s → r ≡ s
-judge-of-determined t networks = judged-one (relationsOfTables t) (mappingOf networks)
+pub judge-of-determined : (t : Tables) (networks : List Network)
+    → Determines (λ (r : Judged). Words 32 (r .waits) × JudgedIs (relationsOfTables t) (mappingOf networks) r)
+judge-of-determined t networks r s f g = judged-one (relationsOfTables t) (mappingOf networks) r s (f .0) (g .0) (f .1) (g .1)

@@ -21,7 +21,6 @@ use Rattle.tables.specs.Cells.{relationsOfTables, TablesOk}
 use Rattle.tables.specs.Relations.{StallsRows}
 use Rattle.tables.proofs.InRange.{relations-accepted, rows-stalls}
 use Rattle.verdicts.specs.Verdicts.{WaitsOf, MessagesPast, Fitting, Unfitting}
-use Rattle.verdicts.specs.declared.Judged.{Judged}
 use Rattle.verdicts.specs.Leaves.{asMessage}
 use Rattle.steps.specs.Steps.{StepsRows}
 use Rattle.judgement.specs.Judging.{StepsOf, RowsJudged}

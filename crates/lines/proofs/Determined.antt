@@ -4,6 +4,7 @@ use mathlib.Core.Path.{_≡_, sym, subst, _∙_}
 use mathlib.Core.Bool.{Bool}
 use mathlib.Core.List.{List}
 use lib.ListN.{length}
+use Rattle.determined.specs.Determined.{Determines}
 use Rattle.text.specs.declared.Fields.{Fields}
 use Rattle.text.specs.Parts.{part, split}
 use Rattle.text.specs.Fields.{fieldsOf}
@@ -14,7 +15,7 @@ use Rattle.lines.specs.Next.{Next}
 abbrev nextOf : ℕ → Fields → Bool → NextLine
 nextOf e f b = record { end = e; fields = f; is = b }
 
-pub next-line-determined : (text : List ℕ) (at : ℕ) (word : List ℕ) (r s : NextLine) → Next text at word r → Next text at word s → r ≡ s
+pub next-line-determined : (text : List ℕ) (at : ℕ) (word : List ℕ) → Determines (Next text at word)
 next-line-determined text at word r s p q =
     let e : r .end ≡ s .end = p .ends ∙ sym (q .ends) in
     let f : r .fields ≡ s .fields =

@@ -10,12 +10,13 @@ use borrow.Author.Tests.{eq-eqb, ne-eqb}
 use Rattle.rules.specs.declared.Network.{Network}
 use Rattle.text.specs.Parts.{part, place, split, lines}
 use Rattle.text.specs.Words.{mappingHeader}
+use Rattle.text.proofs.Lines.{lines-end}
 use Rattle.papers.specs.declared.Refusal.{Refusal}
 use Rattle.papers.specs.Checks.{refusal, none, pickRefusal}
 use Rattle.papers.specs.Opening.{openingOf}
 use Rattle.papers.specs.Lined.{Lined}
 use Rattle.papers.proofs.OpeningLaws.{opened}
-use Rattle.papers.proofs.Walk.{NextLine, walk-next, walk-end}
+use Rattle.papers.proofs.Walk.{NextLine, walk-next}
 use Rattle.tables.specs.declared.MessageRow.{MessageRow}
 use Rattle.mapping.specs.declared.Mapped.{Mapped}
 use Rattle.maplines.specs.declared.MapLine.{MapLine}
@@ -88,7 +89,7 @@ module _ (d : MessageRow) (text : List ℕ) (from : ℕ) (messages : List Messag
         let w : length ms ≤ i = omega (arith, length-take-le count messages (omega arith)) in
         ap (λ (l : List Network). record { number = 0; line = 0; networks = l })
         (g .kept ∙ ap (λ (j : ℕ). map networkNo (g .ns ++ replicate (32 - j) 0)) (sym (g .long)))
-        ∙ sym (ap₂ (λ (ls : List (List ℕ)) (next : List MessageRow). readMaps (i + 2) ls next (g .ns)) (walk-end text at h) (drop-of-length-le ms {i = i} w))
+        ∙ sym (ap₂ (λ (ls : List (List ℕ)) (next : List MessageRow). readMaps (i + 2) ls next (g .ns)) (lines-end text at h) (drop-of-length-le ms {i = i} w))
         ∙ g .goal
 
     -- a message has no line
@@ -98,7 +99,7 @@ module _ (d : MessageRow) (text : List ℕ) (from : ℕ) (messages : List Messag
     going-short h k m o =
         let ms = take count messages in
         let w : i < length ms = omega (arith, length-take-le count messages (omega arith)) in
-        sym (ap₂ (λ (ls : List (List ℕ)) (next : List MessageRow). readMaps (i + 2) ls next (g .ns)) (walk-end text at h) (drop-cons ms i d w))
+        sym (ap₂ (λ (ls : List (List ℕ)) (next : List MessageRow). readMaps (i + 2) ls next (g .ns)) (lines-end text at h) (drop-cons ms i d w))
         ∙ g .goal
 
     module _ (h : at < length text) where

@@ -12,6 +12,7 @@ use Rattle.text.specs.Words.{mappingHeader, mapWord, newline}
 use Rattle.text.specs.Written.{decimal}
 use Rattle.text.proofs.Parts.{same-refl}
 use Rattle.text.proofs.NameLaws.{rule-length}
+use Rattle.text.proofs.Written.{decimal-small}
 use Rattle.papers.specs.declared.Refusal.{Refusal}
 use Rattle.papers.proofs.OpeningLaws.{opens}
 use Rattle.papers.proofs.Joined.{many-cons, many-append, split-none, split-join, lines-join, Ends, ends-join, name-lacks}
@@ -22,7 +23,7 @@ use Rattle.networks.specs.Networks.{networkOf}
 use Rattle.mapping.specs.Reading.{accepted, readMaps, readMapping}
 use Rattle.maplines.specs.Line.{mapLine}
 use Rattle.mapping.specs.Text.{mapFields, mapTexts, mappingText, Writable}
-use Rattle.networks.proofs.NetworkLaws.{low-or-high, one, two, network-found}
+use Rattle.networks.proofs.NetworkLaws.{low-or-high, two, network-found}
 use Rattle.maplines.proofs.LineLaws.{refusalAt, gives-network, line-gives}
 use Rattle.mapping.proofs.ReadLaws.{maps-more, reading-opened}
 
@@ -31,13 +32,13 @@ use Rattle.mapping.proofs.ReadLaws.{maps-more, reading-opened}
 decimal-lacks : (b n : ℕ) → b < 48 → n < 32 → howMany b (decimal n) ≡ 0
 unfolding howMany
 decimal-lacks b n h k =
-    ⊎-elim (λ (l : n < 10). ap (howMany b) (one n l) ∙ many-cons b (n + 48) [] (λ z. omega arith))
+    ⊎-elim (λ (l : n < 10). ap (howMany b) (decimal-small n l) ∙ many-cons b (n + 48) [] (λ z. omega arith))
     (λ (l : 10 ≤ n). ap (howMany b) (two n l (omega arith)) ∙ many-cons b (n / 10 + 48) ((n % 10 + 48) ∷ []) (λ z. omega arith) ∙ many-cons b (n % 10 + 48) [] (λ z. omega arith))
     (low-or-high n)
 
 decimal-short : (n : ℕ) → n < 32 → length (decimal n) ≤ 2
 decimal-short n k =
-    ⊎-elim (λ (l : n < 10). omega (arith, ap length (one n l))) (λ (l : 10 ≤ n). omega (arith, ap length (two n l (omega arith)))) (low-or-high n)
+    ⊎-elim (λ (l : n < 10). omega (arith, ap length (decimal-small n l))) (λ (l : 10 ≤ n). omega (arith, ap length (two n l (omega arith)))) (low-or-high n)
 
 -- ---- one line
 

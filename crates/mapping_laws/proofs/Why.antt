@@ -18,6 +18,7 @@ use Rattle.papers.specs.Checks.{check, refusal, firstOf}
 use Rattle.papers.specs.Opening.{openingChecks, openingOf}
 use Rattle.papers.proofs.Checks.{ToldBy, row, only-given, passed-by}
 use Rattle.tables.specs.declared.MessageRow.{MessageRow}
+use Rattle.tables.proofs.AllCells.{getD-zeros}
 use Rattle.mapping.specs.declared.Mapped.{Mapped}
 use Rattle.maplines.specs.Line.{field, shaped, matches, isNetwork, lineChecks, lineRefusal}
 use Rattle.networks.specs.Networks.{networkOf}
@@ -203,13 +204,8 @@ bad-told next k ls r w =
 
 -- ---- the networks that are given
 
-zero-at : (n i : ℕ) → _≡_ {A = ℕ} (getD (replicate n 0) i 0) 0
-zero-at zero i = refl
-zero-at (suc n) zero = refl
-zero-at (suc n) (suc i) = zero-at n i
-
 pub pad-at : (l : List ℕ) (n i : ℕ) → getD (l ++ replicate n 0) i 0 ≡ getD l i 0
-pad-at [] n i = zero-at n i
+pad-at [] n i = getD-zeros n i
 pad-at (x ∷ l) n zero = refl
 pad-at (x ∷ l) n (suc i) = pad-at l n i
 

@@ -3,8 +3,9 @@ use mathlib.Core.Path.{_≡_}
 use mathlib.Core.Bool.{Bool}
 use mathlib.Core.List.{List}
 use Prim.Native.Nat.{ℕ}
+use Rattle.determined.specs.Determined.{Determines}
+use Rattle.determined.proofs.Equal.{equal}
 use Rattle.text.specs.Name.{nameRule}
-use Rattle.text.proofs.Determined.{one-answer}
 
-pub is-name-determined : (l : List ℕ) (r s : Bool) → r ≡ nameRule l → s ≡ nameRule l → r ≡ s
-is-name-determined l r s = one-answer
+pub is-name-determined : (l : List ℕ) → Determines (λ (r : Bool). r ≡ nameRule l)
+is-name-determined l = equal _

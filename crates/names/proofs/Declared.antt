@@ -1,17 +1,17 @@
 -- What it means for a reader that a name is declared in the tables, or is not.
 use mathlib.Core.Path.{_≡_}
-use mathlib.Core.Bool.{true, false}
+use mathlib.Core.Bool.{true}
 use mathlib.Core.List.{List}
-use Prim.Native.Nat.{ℕ, _≤_, _<_}
-use lib.ListN.{length, getD}
-use borrow.Author.Tests.{ltb-true, ltb-false}
+use Prim.Native.Nat.{ℕ, _≤_}
+use lib.ListN.{length}
+use borrow.Author.Tests.{ltb-true}
 use Rattle.tables.specs.declared.Controller.{Controller}
 use Rattle.tables.specs.declared.MessageRow.{MessageRow}
 use Rattle.tables.specs.declared.EventRow.{EventRow}
 use Rattle.tables.specs.declared.StateRow.{StateRow}
 use Rattle.tables.specs.declared.Tables.{Tables}
 use Rattle.names.specs.Names.{messageNamed, eventNamed, stateNamed, messageAt, eventAt, stateAt, isMessage, isEvent, isState}
-use Rattle.names.proofs.Look.{First, first-found, first-absent}
+use Rattle.names.proofs.Look.{First, first-found}
 
 module _ (t : Tables) (x : List ℕ) where
   module _ (d : MessageRow) (long : t .«message_count» ≤ length (t .messages)) where

@@ -9,9 +9,8 @@ use lib.ListN.{length, getD}
 use lib.Dec.{ltb}
 use borrow.Author.Tests.{ltb-true, ltb-false}
 use Rattle.rules.specs.Cases.{upTo}
-use Rattle.text.specs.Parts.{firstIndex}
 use Rattle.text.specs.Written.{decimal}
-use Rattle.text.proofs.Parts.{same-true, true-same, same-false, first-le, first-passes, first-at, first-none}
+use Rattle.text.proofs.Parts.{true-same, same-false, first-at, first-none}
 use Rattle.text.proofs.Written.{decimal-small, decimal-step}
 use Rattle.networks.specs.Networks.{writtenAs, networkOf}
 
@@ -37,9 +36,6 @@ low-or-high n = go (ltb n 10) refl
     go true e = inl (ltb-true n 10 e)
     go false e = inr (ltb-false n 10 e)
 
-pub one : (n : ℕ) → n < 10 → decimal n ≡ (n + 48) ∷ []
-one n h = decimal-small n h
-
 pub two : (n : ℕ) → 10 ≤ n → n < 100 → decimal n ≡ (n / 10 + 48) ∷ (n % 10 + 48) ∷ []
 two n h k = decimal-step n h ∙ ap (λ (l : List ℕ). l ++ ((n % 10 + 48) ∷ [])) (decimal-small (n / 10) (omega arith))
 
@@ -51,7 +47,7 @@ value (a ∷ b ∷ l) = (a - 48) * 10 + (b - 48)
 
 value-decimal : (n : ℕ) → n < 100 → value (decimal n) ≡ n
 value-decimal n h =
-    ⊎-elim (λ (k : n < 10). ap value (one n k) ∙ omega arith) (λ (k : 10 ≤ n). ap value (two n k h) ∙ omega arith) (low-or-high n)
+    ⊎-elim (λ (k : n < 10). ap value (decimal-small n k) ∙ omega arith) (λ (k : 10 ≤ n). ap value (two n k h) ∙ omega arith) (low-or-high n)
 
 pub decimal-same : (m n : ℕ) → m < 100 → n < 100 → decimal m ≡ decimal n → m ≡ n
 decimal-same m n h k e = sym (value-decimal m h) ∙ ap value e ∙ value-decimal n k
@@ -87,13 +83,13 @@ second l = getD l 1 0
 
 pub one-found : (a : ℕ) → 48 ≤ a → a ≤ 57 → networkOf (a ∷ []) ≡ a - 48
 one-found a h k =
-    network-is (a ∷ []) (a - 48) (omega arith) (one (a - 48) (omega arith) ∙ ap (λ (n : ℕ). n ∷ []) (let q : a - 48 + 48 ≡ a = omega arith in q))
+    network-is (a ∷ []) (a - 48) (omega arith) (decimal-small (a - 48) (omega arith) ∙ ap (λ (n : ℕ). n ∷ []) (let q : a - 48 + 48 ≡ a = omega arith in q))
 
 pub one-none : (a : ℕ) → (48 ≤ a → a ≤ 57 → ⊥) → networkOf (a ∷ []) ≡ 32
 one-none a f = network-none (a ∷ []) (λ n h e. ⊎-elim (low n h e) (high n h e) (low-or-high n))
   where
     low : (n : ℕ) → n < 32 → decimal n ≡ a ∷ [] → n < 10 → ⊥
-    low n h e k = let q = ap first (sym (one n k) ∙ e) in f (omega arith) (omega arith)
+    low n h e k = let q = ap first (sym (decimal-small n k) ∙ e) in f (omega arith) (omega arith)
 
     high : (n : ℕ) → n < 32 → decimal n ≡ a ∷ [] → 10 ≤ n → ⊥
     high n h e k = omega (arith, ap length (sym (two n k (omega arith)) ∙ e))
@@ -109,7 +105,7 @@ pub two-none : (a b : ℕ) → (49 ≤ a → 48 ≤ b → b ≤ 57 → (a - 48) 
 two-none a b f = network-none (a ∷ b ∷ []) (λ n h e. ⊎-elim (low n h e) (high n h e) (low-or-high n))
   where
     low : (n : ℕ) → n < 32 → decimal n ≡ a ∷ b ∷ [] → n < 10 → ⊥
-    low n h e k = omega (arith, ap length (sym (one n k) ∙ e))
+    low n h e k = omega (arith, ap length (sym (decimal-small n k) ∙ e))
 
     high : (n : ℕ) → n < 32 → decimal n ≡ a ∷ b ∷ [] → 10 ≤ n → ⊥
     high n h e k =
@@ -120,7 +116,7 @@ two-none a b f = network-none (a ∷ b ∷ []) (λ n h e. ⊎-elim (low n h e) (
 
 pub length-none : (x : List ℕ) → (length x ≡ 1 → ⊥) → (length x ≡ 2 → ⊥) → networkOf x ≡ 32
 length-none x f g =
-    network-none x (λ n h e. ⊎-elim (λ (k : n < 10). f (ap length (sym e ∙ one n k))) (λ (k : 10 ≤ n). g (ap length (sym e ∙ two n k (omega arith)))) (low-or-high n))
+    network-none x (λ n h e. ⊎-elim (λ (k : n < 10). f (ap length (sym e ∙ decimal-small n k))) (λ (k : 10 ≤ n). g (ap length (sym e ∙ two n k (omega arith)))) (low-or-high n))
 
 -- a list by its length
 pub of-one : (x : List ℕ) → length x ≡ 1 → x ≡ getD x 0 0 ∷ []

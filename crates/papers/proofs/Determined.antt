@@ -1,9 +1,11 @@
 -- The contract of `opening` leaves one answer.
-use mathlib.Core.Path.{_≡_, sym, _∙_}
+use mathlib.Core.Path.{_≡_}
 use mathlib.Core.List.{List}
 use Prim.Native.Nat.{ℕ}
+use Rattle.determined.specs.Determined.{Determines}
+use Rattle.determined.proofs.Equal.{equal}
 use Rattle.papers.specs.declared.Refusal.{Refusal}
 use Rattle.papers.specs.Opening.{openingOf}
 
-pub opening-determined : (header text : List ℕ) (r s : Refusal) → r ≡ openingOf header text → s ≡ openingOf header text → r ≡ s
-opening-determined header text r s p q = p ∙ sym q
+pub opening-determined : (header text : List ℕ) → Determines (λ (r : Refusal). r ≡ openingOf header text)
+opening-determined header text = equal _

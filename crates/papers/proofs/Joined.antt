@@ -9,7 +9,7 @@ use lib.Dec.{eqb, ltb}
 use borrow.Author.Tests.{eq-eqb, ne-eqb, ltb-true, ltb-false}
 use Rattle.text.specs.Parts.{howMany, onto, split, lines}
 use Rattle.text.specs.Name.{nameByte, every, nameRule}
-use Rattle.text.proofs.Lines.{split-many}
+use Rattle.text.proofs.Lines.{split-many, front-more}
 use Rattle.text.proofs.NameLaws.{no-name-byte, rule-length, rule-bytes}
 
 -- ---- how many bytes b there are
@@ -51,10 +51,6 @@ module _ (b : ℕ) where
       go : (t : Bool) → eqb x b ≡ t → (howMany b l ≡ 0 → split b (l ++ (b ∷ m)) ≡ l ∷ split b m) → split b (x ∷ (l ++ (b ∷ m))) ≡ (x ∷ l) ∷ split b m
       go true e f = absurd (omega (arith, many-here x l true e))
       go false e f = rw e (ap (onto x) (f (sym (many-here x l false e) ∙ h)))
-
-front-more : {A : Type 0} (x : A) (l : List A) → 0 < length l → dropLast (x ∷ l) ≡ x ∷ dropLast l
-front-more x [] h = absurd (omega arith)
-front-more x (y ∷ l) h = refl
 
 -- a line in front of a text
 pub lines-join : (l m : List ℕ) → howMany 10 l ≡ 0 → lines (l ++ (10 ∷ m)) ≡ l ∷ lines m

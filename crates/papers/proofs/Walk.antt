@@ -1,13 +1,13 @@
 -- A reader's walk from line to line: what is left of the text is empty or ends with byte 10.
 use mathlib.Core.Path.{_≡_}
-use mathlib.Core.List.{List, [], _∷_}
+use mathlib.Core.List.{List, _∷_}
 use Prim.Native.Nat.{ℕ, _+_, _≤_, _<_}
 use native.Mathlib.Omega.{arith}
 use lib.ListN.{length, drop}
 use Rattle.text.specs.Parts.{part, place, lines}
 use Rattle.papers.specs.Lined.{Lined}
 use Rattle.text.proofs.Parts.{place-from}
-use Rattle.text.proofs.Lines.{lines-next, lines-end, line-ends}
+use Rattle.text.proofs.Lines.{lines-next, line-ends}
 
 -- The line at a place ends at e, and the next one starts behind that.
 pub record NextLine (text : List ℕ) (at e : ℕ) : Type 0 where
@@ -26,7 +26,3 @@ walk-next text at g h =
       first = lines-next text at (g .within) ends;
       more = record { within = omega arith; last = λ k. g .last h };
     }
-
--- there is none
-pub walk-end : (text : List ℕ) (at : ℕ) → length text ≤ at → lines (drop at text) ≡ []
-walk-end text at h = lines-end text at h

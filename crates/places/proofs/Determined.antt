@@ -4,6 +4,7 @@ use mathlib.Core.Path.{_≡_, refl, sym, _∙_}
 use mathlib.Core.Bool.{Bool, true, false}
 use mathlib.Core.List.{List}
 use lib.ListN.{replicate}
+use Rattle.determined.specs.Determined.{Determines}
 use Rattle.rules.specs.declared.State.{State}
 use Rattle.tables.specs.declared.Controller.{Controller}
 use Rattle.tables.specs.declared.Trigger.{Trigger}
@@ -24,8 +25,7 @@ same a b c = cc
 
 pub place-of-determined : (f : Line) (whose : Controller)
     (messages : List MessageRow) (message-count : ℕ) (events : List EventRow) (event-count : ℕ) (states : List StateRow) (state-count : ℕ)
-    (r s : Place) → PlaceTold f whose messages message-count events event-count states state-count r
-    → PlaceTold f whose messages message-count events event-count states state-count s → r ≡ s
+    → Determines (PlaceTold f whose messages message-count events event-count states state-count)
 place-of-determined f whose messages message-count events event-count states state-count r s p q = go (r .known) refl
   where
     t : Tables

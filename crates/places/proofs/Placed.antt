@@ -19,14 +19,12 @@ use Rattle.names.specs.Names.{stateNamed, stateAt, isState, foundState}
 use Rattle.names.proofs.Look.{state-at}
 use Rattle.records.specs.Line.{Line, field, triggerOf}
 use Rattle.records.specs.Checks.{isTrigger}
+use Rattle.records.proofs.Both.{not-both}
 use Rattle.places.specs.declared.FoundTrigger.{FoundTrigger}
 use Rattle.places.specs.declared.FoundTrigger.the-variants.{At, Nothing}
 use Rattle.places.specs.declared.Place.{Place}
 use Rattle.places.specs.Place.{TriggerTold, noPlace, PlaceTold}
 use Rattle.places.proofs.Named.{state-known, state-unknown, trigger-known, trigger-unknown}
-
-pub never : (b : Bool) → b ≡ false → b ≡ true → ⊥
-never b e f = let z : _≡_ {A = ℕ} 0 1 = cc in omega arith
 
 module _ (f : Line) (whose : Controller)
     (messages : List MessageRow) (message-count : ℕ) (events : List EventRow) (event-count : ℕ) (states : List StateRow) (state-count : ℕ)
@@ -39,9 +37,9 @@ module _ (f : Line) (whose : Controller)
       let k : v .known ≡ false = ap (λ (x : Place). x .known) z in
       record {
         known = λ t d. k ∙ sym (h t d);
-        state = λ t d b. absurd (never (v .known) k b);
-        trigger = λ t d b. absurd (never (v .known) k b);
-        below = λ b. absurd (never (v .known) k b);
+        state = λ t d b. absurd (not-both (v .known) k b);
+        trigger = λ t d b. absurd (not-both (v .known) k b);
+        below = λ b. absurd (not-both (v .known) k b);
         cleared = λ b. z;
       }
 
@@ -68,7 +66,7 @@ module _ (f : Line) (whose : Controller)
           state = λ t d b. own t d .1;
           trigger = λ t d b. on t d .1;
           below = λ b. (let h = state-at (firstIndex (stateNamed whose (field f 2)) (take state-count states)) state-count (v .state) (sym e ∙ p) in omega arith);
-          cleared = λ b. absurd (never (v .known) b k);
+          cleared = λ b. absurd (not-both (v .known) b k);
         }
       where
         own : (t : Tables) → Declared t messages message-count events event-count states state-count

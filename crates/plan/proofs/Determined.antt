@@ -1,11 +1,11 @@
 -- The planning call is determined: answer and lent bytes.
-use Prim.Native.Nat.{ℕ, _<_, _≤_}
+use Prim.Native.Nat.{ℕ}
 use mathlib.Core.Path.{_≡_, refl, sym, ap, ap₂, _∙_, subst}
-use mathlib.Core.Logic.{_⊎_, inl, inr, ⊎-elim}
+use mathlib.Core.Logic.{inl, inr}
 use mathlib.Core.Bool.{Bool, true, false}
 use mathlib.Core.List.{List}
 use native.Mathlib.Omega.{arith}
-use lib.ListN.{length, getD}
+use lib.ListN.{getD}
 use lib.Seq.{ext-getD}
 use lib.Dec.{eqb}
 use borrow.Author.Tests.{eqb-true, eqb-false}
@@ -18,13 +18,11 @@ use Rattle.tables.specs.declared.Tables.{Tables}
 use Rattle.tables.specs.Tables.{messagesOf}
 use Rattle.tables.specs.Cells.{relationsOfTables}
 use Rattle.protocol.specs.Reading.{readProtocol}
-use Rattle.answers.specs.declared.Answer.{Answer}
 use Rattle.answers.specs.Answers.{Listed, packedAnswer}
 use Rattle.answers.proofs.Determined.{refusal-determined, listed-determined}
 use Rattle.plan_listing.specs.PlanText.{classThree, classTwo}
-use Rattle.plan.specs.Call.{Three, Two, PlanListing, Planned, Call, Packed}
+use Rattle.plan.specs.Call.{Three, Two, PlanListing}
 use Rattle.plan.specs.Determined.{PlanDetermined, PackedDetermined, PrintedDetermined}
-use Rattle.plan.specs.Printed.{PlanPrinted}
 
 -- ---- the listing
 

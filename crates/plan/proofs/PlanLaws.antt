@@ -1,12 +1,11 @@
 -- What was found out and written is a plan.
 use Prim.Native.Nat.{ℕ, _<_, _≤_}
 use mathlib.Core.Path.{_≡_, refl, ap, sym, _∙_, subst}
-use mathlib.Core.Logic.{_≢_, inl, inr, _⊎_, ⊎-elim}
+use mathlib.Core.Logic.{_≢_, inl, inr, ⊎-elim}
 use mathlib.Core.List.{List}
 use native.Mathlib.Omega.{arith}
 use lib.ListN.{take}
 use Rattle.tables.specs.declared.Tables.{Tables}
-use Rattle.tables.specs.Tables.{messagesOf}
 use Rattle.tables.specs.Cells.{relationsOfTables, TablesOk}
 use Rattle.whole.specs.declared.Reading.{Reading}
 use Rattle.protocol.specs.Reading.{readProtocol}

@@ -1,7 +1,7 @@
 -- How long a plan's listing can be, and how large the numbers of an answer.
 use Prim.Native.Nat.{ℕ, _<_, _≤_}
-use mathlib.Core.Path.{_≡_, refl, sym, ap, _∙_, subst}
-use mathlib.Core.Logic.{_⊎_, inl, inr, ⊎-elim}
+use mathlib.Core.Path.{_≡_, refl, sym, ap, subst}
+use mathlib.Core.Logic.{_⊎_, inl, inr}
 use mathlib.Core.Bool.{Bool, true, false}
 use mathlib.Core.List.{List, []}
 use native.Mathlib.Omega.{arith}
@@ -16,7 +16,6 @@ use Rattle.rules.proofs.Promises.{every-plan, one-class, determined}
 use Rattle.text.specs.Name.{nameText}
 use Rattle.text.proofs.NameLaws.{name-text}
 use Rattle.tables.specs.declared.MessageRow.{MessageRow}
-use Rattle.tables.specs.declared.Tables.{Tables}
 use Rattle.tables.specs.Tables.{noMessage, messagesOf}
 use Rattle.tables.specs.Cells.{relationsOfTables}
 use Rattle.protocol.specs.Reading.{readProtocol}
@@ -26,11 +25,11 @@ use Rattle.bounds.specs.Bounds.{Named}
 use Rattle.bounds.proofs.NamesKept.{names-kept}
 use Rattle.bounds.proofs.Bounds.{protocol-low}
 use Rattle.answers.specs.declared.Answer.{Answer}
-use Rattle.answers.specs.Answers.{refusedAt, noRoom, finished, Refused, Listed, Small, shownLength, pickNumber, Unpacked}
+use Rattle.answers.specs.Answers.{refusedAt, noRoom, finished, Listed, Small, shownLength, pickNumber, Unpacked}
 use Rattle.answers.proofs.Packing.{unpack}
 use Rattle.plan_listing.specs.Lengths.{ShortNames}
 use Rattle.plan_listing.proofs.Longest.{longest-maps, longest-cycle}
-use Rattle.plan.specs.Call.{Three, Two, PlanListing, Call, Packed}
+use Rattle.plan.specs.Call.{PlanListing}
 use Rattle.plan.specs.Longest.{PlanLength, PlanSmall, PlanUnpacked}
 
 -- ---- relations of at most 32 messages

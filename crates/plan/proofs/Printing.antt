@@ -16,7 +16,7 @@ use Rattle.answers.specs.declared.Answer.{Answer}
 use Rattle.answers.specs.Answers.{refusedAt, finished, Refused, Listed}
 use Rattle.answers.specs.RefusedText.{refusedText}
 use Rattle.answers.proofs.RefusedLength.{refused-short}
-use Rattle.plan.specs.Call.{Planned, Call}
+use Rattle.plan.specs.Call.{Call}
 use Rattle.plan.specs.Printed.{PlanPrinted}
 use Rattle.plan.proofs.PlanLongest.{plan-length}
 

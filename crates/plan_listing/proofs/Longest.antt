@@ -1,13 +1,11 @@
 -- The longest listings of a plan.
-use Prim.Native.Nat.{ℕ, suc, _+_, _*_, _≤_, _<_}
+use Prim.Native.Nat.{ℕ, suc, _*_, _≤_, _<_}
 use mathlib.Core.List.{List, [], _∷_, _++_}
 use native.Mathlib.Omega.{arith}
 use lib.ListN.{length, getD, length-append}
-use Rattle.text.specs.declared.Name.{Name}
 use Rattle.text.specs.Name.{nameText}
 use Rattle.text.specs.Words.{tab}
 use Rattle.text.specs.Written.{decimal}
-use Rattle.text.proofs.NameLaws.{kept-length}
 use Rattle.text.proofs.Written.{decimal-length}
 use Rattle.tables.specs.declared.MessageRow.{MessageRow}
 use Rattle.mapping.specs.Text.{mapTexts}

@@ -1,12 +1,15 @@
 -- The contracts of this crate leave one answer.
 use Prim.Native.Nat.{ℕ}
-use mathlib.Core.Path.{_≡_, sym, _∙_}
+use mathlib.Core.Path.{_≡_}
 use mathlib.Core.List.{List}
-use Rattle.protocol.specs.Reading.{packed, readProtocol, ReadingDetermined}
+use Rattle.determined.specs.Determined.{Determines}
+use Rattle.determined.proofs.Equal.{equal}
+use Rattle.whole.specs.declared.Reading.{Reading}
+use Rattle.protocol.specs.Reading.{packed, readProtocol}
 
-pub reading-determined : ReadingDetermined
-reading-determined text r s p q = p ∙ sym q
+pub reading-determined : (text : List ℕ) → Determines (λ (r : Reading). r ≡ readProtocol text)
+reading-determined text = equal _
 
 -- vn_check_protocol: the contract is an equation.
-pub check-determined : (text : List ℕ) (r s : ℕ) → r ≡ packed (readProtocol text) → s ≡ packed (readProtocol text) → r ≡ s
-check-determined text r s e f = e ∙ sym f
+pub check-determined : (text : List ℕ) → Determines (λ (r : ℕ). r ≡ packed (readProtocol text))
+check-determined text = equal _

@@ -1,6 +1,5 @@
 -- Reading a protocol text.
 use Prim.Native.Nat.{ℕ, _+_, _*_, _%_}
-use mathlib.Core.Path.{_≡_}
 use mathlib.Core.List.{List}
 use lib.ListN.{drop}
 use Rattle.text.specs.Parts.{lines}
@@ -16,10 +15,6 @@ unfoldable pub readProtocol : List ℕ → Reading
 readProtocol text =
     let body = readLines 2 (drop 1 (lines text)) clearedTables in
     unless (openingOf protocolHeader text) body
-
--- The contract of `read_protocol` leaves one answer.
-abbrev pub ReadingDetermined : Type 0
-ReadingDetermined = (text : List ℕ) (r s : Reading) → r ≡ readProtocol text → s ≡ readProtocol text → r ≡ s
 
 -- ---- from a C host
 

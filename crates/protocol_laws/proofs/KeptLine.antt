@@ -1,4 +1,5 @@
 -- A line that is not refused keeps the tables in order.
+use borrow.Author.Tests.{leb-false}
 use Prim.Native.Nat.{ℕ}
 use mathlib.Core.Path.{_≡_, sym, ap, _∙_}
 use Rattle.papers.specs.declared.Refusal.{Refusal}
@@ -10,17 +11,16 @@ use Rattle.records.proofs.Numbers.{lineNumber, section-told, tells-number}
 use Rattle.cells.proofs.InRange.{cell-of-ok}
 use Rattle.sections.specs.Lines.{storedIn, stored}
 use Rattle.sections.proofs.Passed.{passed}
-use Rattle.sections.proofs.Going.{below}
 use Rattle.whole.specs.Kept.{Kept}
 use Rattle.sections.proofs.Kept.{kept-message, kept-event, kept-state, kept-cell}
 
 kept-in : (s : Section) (t : Tables) (k : ℕ) (f : Line) → Kept t → firstOf (sectionChecks s t k f) .number ≡ 0 → Kept (storedIn s t f)
-kept-in message t k f h z = kept-message t h (messageOf f) (below 32 (t .«message_count») (passed message t k f z .room))
-kept-in event t k f h z = kept-event t h (eventOf f) (below 8 (t .«event_count») (passed event t k f z .room))
-kept-in state t k f h z = kept-state t h (stateOf f) (below 64 (t .«state_count») (passed state t k f z .room))
+kept-in message t k f h z = kept-message t h (messageOf f) (leb-false 32 (t .«message_count») (passed message t k f z .room))
+kept-in event t k f h z = kept-event t h (eventOf f) (leb-false 8 (t .«event_count») (passed event t k f z .room))
+kept-in state t k f h z = kept-state t h (stateOf f) (leb-false 64 (t .«state_count») (passed state t k f z .room))
 kept-in cell t k f h z =
     let n : lineNumber cell t f ≡ 0 = sym (tells-number (lineNumber cell t f) k) ∙ ap (λ (r : Refusal). r .number) (sym (section-told cell t k f)) ∙ z in
-    kept-cell t h (cellOf t f) (below 512 (t .«cell_count») (passed cell t k f z .room)) (cell-of-ok t f n)
+    kept-cell t h (cellOf t f) (leb-false 512 (t .«cell_count») (passed cell t k f z .room)) (cell-of-ok t f n)
 kept-in unknown t k f h z = h
 
 pub kept-line : (t : Tables) (k : ℕ) (f : Line) → Kept t → lineRefusal t k f .number ≡ 0 → Kept (stored t f)

@@ -23,7 +23,7 @@ use Rattle.names.proofs.Declared.{message-declared, event-declared, state-decla
 use Rattle.records.specs.Line.{Line, field, says, cell, sectionOf, isController, cellController, messageNo, triggerOf, outcomeOf, sentFields, sentOf, cellOf}
 use Rattle.records.specs.Checks.{shaped, stallShape, goShape, isCache, isTrigger, allMessages, knownCell}
 use Rattle.records.proofs.Sections.{other-word}
-use Rattle.cell_shapes.proofs.Shapes.{and-left, and-right}
+use Rattle.records.proofs.Both.{and-left, and-right}
 use Rattle.protocol_laws.specs.Written.{controllerWord, messageName, stateRow, triggerName, outcomeFields, cellFields}
 use Rattle.sections.proofs.Words.{not-in}
 use Rattle.protocol_laws.proofs.WrittenFields.{first-word, controller-word}

@@ -17,7 +17,7 @@ use Rattle.tables.specs.declared.Controller.the-variants.{Cache, Dir}
 use Rattle.tables.specs.declared.Stability.the-variants.{Stable, Transient}
 use Rattle.records.specs.Line.{Line, field, says, Section, message, event, state, sectionOf, isKind, kindOf, isController, controllerOf, isStability, stabilityOf, messageOf, eventOf, stateOf}
 use Rattle.records.specs.Checks.{shaped}
-use Rattle.cell_shapes.proofs.Shapes.{and-left, and-right}
+use Rattle.records.proofs.Both.{and-left, and-right}
 use Rattle.protocol_laws.specs.Written.{kindWord, controllerWord, stabilityWord, messageFields, eventFields, stateFields}
 use Rattle.sections.proofs.Words.{not-in}
 

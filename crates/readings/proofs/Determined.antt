@@ -4,6 +4,7 @@ use mathlib.Core.Path.{_≡_, refl, sym, _∙_}
 use mathlib.Core.Bool.{Bool, true, false}
 use mathlib.Core.List.{List}
 use lib.ListN.{replicate}
+use Rattle.determined.specs.Determined.{Determines}
 use Rattle.tables.specs.declared.MessageRow.{MessageRow}
 use Rattle.tables.specs.declared.EventRow.{EventRow}
 use Rattle.tables.specs.declared.StateRow.{StateRow}
@@ -22,8 +23,7 @@ same a b c = cc
 
 pub reading-determined : (f : Line)
     (messages : List MessageRow) (message-count : ℕ) (events : List EventRow) (event-count : ℕ) (states : List StateRow) (state-count : ℕ)
-    (r s : Reading) → CellRead f messages message-count events event-count states state-count r
-    → CellRead f messages message-count events event-count states state-count s → r ≡ s
+    → Determines (CellRead f messages message-count events event-count states state-count)
 reading-determined f messages message-count events event-count states state-count r s p q = go (r .known) refl
   where
     t : Tables

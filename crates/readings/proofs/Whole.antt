@@ -25,10 +25,10 @@ use Rattle.tables.proofs.Given.{messages-are, states-are}
 use Rattle.names.specs.Names.{stateAt, isState}
 use Rattle.records.specs.Line.{Line, field, says, cell, cellController, sentFields, sentOf, cellOf}
 use Rattle.records.specs.Checks.{isTrigger, allMessages, knownCell, isStable, inStable, stallInStable}
+use Rattle.records.proofs.Both.{not-both}
 use Rattle.cell_shapes.specs.Shape.{Stalls, Goes}
 use Rattle.places.specs.declared.Place.{Place}
 use Rattle.places.specs.Place.{PlaceTold}
-use Rattle.places.proofs.Placed.{never}
 use Rattle.targets.specs.declared.Target.{Target}
 use Rattle.targets.specs.Target.{TargetTold, sentFrom}
 use Rattle.targets.proofs.Sending.{noMessages}
@@ -54,8 +54,8 @@ module _ (f : Line) (whose : Controller)
       let k : r .known ≡ false = ap (λ (x : Reading). x .known) z in
       record {
         known = λ t d. k ∙ sym (h t d);
-        stuck = λ t d b. absurd (never (r .known) k b);
-        cell = λ t d b. absurd (never (r .known) k b);
+        stuck = λ t d b. absurd (not-both (r .known) k b);
+        cell = λ t d b. absurd (not-both (r .known) k b);
         cleared = λ b. z;
       }
 

@@ -1,11 +1,12 @@
 -- The fields of a whole line: how many there are, and where each stands.
-use Prim.Native.Nat.{ℕ, _-_, _≤_, _<_}
-use mathlib.Core.Path.{_≡_, refl, sym, ap, subst, _∙_}
+use Prim.Native.Nat.{ℕ, _≤_, _<_}
+use mathlib.Core.Path.{_≡_, sym, ap, subst, _∙_}
 use mathlib.Core.List.{List, []}
 use native.Mathlib.Nat.{sub-zero, le-refl}
 use native.Mathlib.Omega.{arith}
-use lib.ListN.{length, getD, take, drop}
+use lib.ListN.{length, getD, take}
 use lib.Seq.{take-length}
+use Rattle.papers.proofs.WholeLine.{whole-fields}
 use Rattle.text.specs.declared.Fields.{Fields}
 use Rattle.text.specs.Parts.{part, split}
 use Rattle.text.specs.Fields.{fieldsOf, lineFields}
@@ -16,9 +17,6 @@ use Rattle.records.specs.Told.{FieldsAre}
 -- the whole line as a part of itself
 pub whole : (line : List ℕ) → part line 0 (length line) ≡ line
 whole line = ap (λ (n : ℕ). take n line) (sub-zero (length line)) ∙ take-length line
-
-whole-fields : (line : List ℕ) → lineFields line 0 (length line) ≡ split 9 line
-whole-fields line = ap (λ (l : List ℕ). split 9 l) (whole line)
 
 module _ (line : List ℕ) (f : Fields) (are : FieldsAre line f) where
   pub few : f .count ≤ 15

@@ -10,7 +10,6 @@ use borrow.Author.Tests.{eq-eqb, ne-eqb, eqb-true, eqb-false}
 use Rattle.text.specs.declared.Fields.{Fields}
 use Rattle.text.specs.Parts.{split, sameText}
 use Rattle.text.specs.Words.{reqWord, fwdWord, dataWord, ctlWord, cacheWord, dirWord, stableWord, transientWord}
-use Rattle.tables.specs.declared.Kind.{Kind}
 use Rattle.tables.specs.declared.Kind.the-variants.{Req, Fwd, Data, Ctl}
 use Rattle.tables.specs.declared.Controller.{Controller}
 use Rattle.tables.specs.declared.Controller.the-variants.{Cache, Dir}
@@ -19,7 +18,7 @@ use Rattle.tables.specs.declared.Stability.the-variants.{Stable, Transient}
 use Rattle.records.specs.declared.FoundKind.the-variants.{Is as IsKind, Nothing as NoKind}
 use Rattle.records.specs.declared.FoundController.the-variants.{Is as IsController, Nothing as NoController}
 use Rattle.records.specs.declared.FoundStability.the-variants.{Is as IsStability, Nothing as NoStability}
-use Rattle.records.specs.Line.{isKind, kindOf, isController, controllerOf, isStability, stabilityOf}
+use Rattle.records.specs.Line.{isController, controllerOf, isStability, stabilityOf}
 use Rattle.records.specs.Told.{FieldsAre}
 use Rattle.records.specs.Found.{foundKind, foundController, foundStability}
 use Rattle.records.proofs.Fields.{few, counted, many}

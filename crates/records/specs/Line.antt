@@ -1,13 +1,12 @@
 -- One line of a protocol text (01-scope.md, "The protocol text"): what its fields say. A line is the list of its fields.
 use Prim.Native.Nat.{ℕ, _-_}
-use mathlib.Core.Bool.{Bool, true, false, _&&_, _||_, cond}
-use mathlib.Core.List.{List, [], _∷_, _++_, map}
+use mathlib.Core.Bool.{Bool, true, false, _||_, cond}
+use mathlib.Core.List.{List, [], _++_, map}
 use lib.ListN.{length, getD, drop, replicate}
-use lib.Dec.{eqb, leb}
 use Rattle.rules.specs.declared.Message.{Message}
 use Rattle.text.specs.Parts.{sameText}
 use Rattle.text.specs.Name.{nameOf}
-use Rattle.text.specs.Words.{messageWord, eventWord, stateWord, cellWord, reqWord, fwdWord, dataWord, ctlWord, cacheWord, dirWord, stableWord, transientWord, stallWord, goWord}
+use Rattle.text.specs.Words.{messageWord, eventWord, stateWord, cellWord, reqWord, fwdWord, dataWord, ctlWord, cacheWord, dirWord, stableWord, transientWord, stallWord}
 use Rattle.tables.specs.declared.Kind.{Kind}
 use Rattle.tables.specs.declared.Kind.the-variants.{Req, Fwd, Data, Ctl}
 use Rattle.tables.specs.declared.Controller.{Controller}

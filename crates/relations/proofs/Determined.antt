@@ -4,6 +4,7 @@ use mathlib.Core.Path.{_≡_, sym, ap, _∙_}
 use mathlib.Core.List.{List}
 use native.Mathlib.Decide.{ℕ-discrete}
 use lib.ListN.{length}
+use Rattle.determined.specs.Determined.{DeterminesLent}
 use Rattle.rows.specs.Rows.{ofRows}
 use Rattle.call.specs.Tables.{rowsOf}
 use Rattle.call.specs.Call.{checks, Refused, Call, packed, Packed}
@@ -22,7 +23,7 @@ refused-one n old new new′ r s e f g = (
     needed (no q) = f .other q ∙ sym (g .other (λ x. q (e ∙ x)))
 
 -- two answers of the call, with the bytes that they leave
-pub call-one : (n : ℕ) (causes stalls old new new′ : List ℕ) (r s : RelationsAnswer) → Call n causes stalls old new r → Call n causes stalls old new′ s → (r ≡ s) × (new ≡ new′)
+pub call-one : (n : ℕ) (causes stalls old : List ℕ) → DeterminesLent (Call n causes stalls old)
 call-one n causes stalls old new new′ r s f g = go (first-one (checks n causes stalls (length old)) (r .number) (s .number) (f .number) (g .number)) (ℕ-discrete (r .number) 0)
   where
     go : r .number ≡ s .number → Dec (r .number ≡ 0) → (r ≡ s) × (new ≡ new′)
@@ -30,6 +31,6 @@ call-one n causes stalls old new new′ r s f g = go (first-one (checks n causes
     go e (no q) = refused-one n old new new′ r s e (f .refused q) (g .refused (λ x. q (e ∙ x)))
 
 -- the packed number, with the bytes
-pub packed-one : (n : ℕ) (causes stalls old new new′ : List ℕ) (j k : ℕ) → Packed n causes stalls old new j → Packed n causes stalls old new′ k → (j ≡ k) × (new ≡ new′)
+pub packed-one : (n : ℕ) (causes stalls old : List ℕ) → DeterminesLent (Packed n causes stalls old)
 packed-one n causes stalls old new new′ j k f g =
     let e = call-one n causes stalls old new new′ (f .answer) (g .answer) (f .call) (g .call) in (f .is ∙ ap packed (e .0) ∙ sym (g .is), e .1)

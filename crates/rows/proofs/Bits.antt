@@ -2,13 +2,13 @@
 use Prim.Native.Nat.{ℕ, zero, suc, _+_, _-_, _*_, _<_, _≤_, _/_, _%_, _^_, min, max}
 use mathlib.Core.Path.{_≡_, refl, sym, subst, ap, _∙_}
 use mathlib.Core.Logic.{_⊎_, inl, inr, ⊎-elim, _↔_, _≢_}
-use native.Mathlib.Nat.{mod-lt, mul-div-cancel, div-self, div-eq-of-lt, pow-suc, add-comm, div-one, zero-div, le-dest, one-mul}
+use native.Mathlib.Nat.{div-self, div-eq-of-lt, pow-suc, add-comm, div-one, zero-div, le-dest, one-mul}
 use native.Mathlib.Decide.{ℕ-discrete, decLe, decLt}
 use native.Mathlib.Numerals.{add-one}
 use native.Mathlib.Omega.{arith}
 use lib.Bits.{bitAnd, bitOr, and-step, or-step, and-shr, or-shr, and-mask, and-le-l}
 use lib.Dec.{lit<}
-use lib.Count.{ones, onesIn, ones-step, trailingZeros, trailing-le, under}
+use lib.Count.{ones, ones-step, trailingZeros, trailing-le, under}
 use lib.Pow.{shr-shr, pow-pos, pow-add, pow-lt, shl-shr, shl-exact, shr-le}
 use Rattle.rules.specs.Plan.{Counts}
 use Rattle.rules.proofs.Search.{First, None, first-below}

@@ -1,46 +1,67 @@
--- The contracts determine the results: two that they allow are equal. A row of w bits is below 2 ^ w.
-use Prim.Native.Nat.{ℕ, _<_, _^_}
-use mathlib.Core.Path.{_≡_, refl, sym}
+-- The contracts determine the results: two that they allow are equal.
+use Prim.Native.Nat.{ℕ, _<_}
+use mathlib.Core.Path.{_≡_, refl, sym, _∙_}
 use mathlib.Core.Bool.{Bool, true, false}
 use mathlib.Core.Logic.{_↔_}
 use mathlib.Core.List.{List}
+use native.Mathlib.Decide.{decLt}
 use native.Mathlib.Omega.{arith}
 use lib.ListN.{getD}
+use lib.Seq.{ext-getD}
+use Rattle.determined.specs.Determined.{Determines}
 use Rattle.rules.proofs.Unique.{counts-one}
 use Rattle.rows.specs.Rows.{Bit}
 use Rattle.rows.specs.Row.{With, Without, Join, Lowest, Ones}
+use Rattle.rows.specs.Closure.{Kept}
+use Rattle.rows.specs.Determined.{DeterminesRow, DeterminesRows, DeterminesWords}
 use Rattle.rows.proofs.Bits.{same-bits}
 
 -- the same answer to a question that can be told
-pub flag-one : (P : Type 0) (r s : Bool) → (r ≡ true) ↔ P → (s ≡ true) ↔ P → r ≡ s
+pub flag-one : (P : Type 0) → Determines (λ (r : Bool). (r ≡ true) ↔ P)
 flag-one P true true f g = refl
 flag-one P true false f g = sym (g .1 (f .0 refl))
 flag-one P false true f g = f .1 (g .0 refl)
 flag-one P false false f g = refl
 
 -- two rows of w bits that are told by the same bits
-pub told-one : (P : ℕ → Type 0) (w r s : ℕ) → r < 2 ^ w → s < 2 ^ w → ((j : ℕ) → Bit r j ↔ P j) → ((j : ℕ) → Bit s j ↔ P j) → r ≡ s
+pub told-one : (P : ℕ → Type 0) (w : ℕ) → DeterminesRow w (λ r. (j : ℕ) → Bit r j ↔ P j)
 told-one P w r s hr hs f g = same-bits w r s hr hs (λ j h. (λ b. g j .1 (f j .0 b), λ b. f j .1 (g j .0 b)))
 
-pub has-one : (row j : ℕ) (r s : Bool) → (r ≡ true) ↔ Bit row j → (s ≡ true) ↔ Bit row j → r ≡ s
+pub has-one : (row j : ℕ) → Determines (λ (r : Bool). (r ≡ true) ↔ Bit row j)
 has-one row j = flag-one (Bit row j)
 
-module _ (w r s : ℕ) (hr : r < 2 ^ w) (hs : s < 2 ^ w) where
-  pub with-one : (row j : ℕ) → With row j r → With row j s → r ≡ s
-  with-one row j f g = told-one _ w r s hr hs (f .bits) (g .bits)
+pub with-one : (w row j : ℕ) → DeterminesRow w (With row j)
+with-one w row j r s hr hs f g = told-one _ w r s hr hs (f .bits) (g .bits)
 
-  pub without-one : (row j : ℕ) → Without row j r → Without row j s → r ≡ s
-  without-one row j f g = told-one _ w r s hr hs (f .bits) (g .bits)
+pub without-one : (w row j : ℕ) → DeterminesRow w (Without row j)
+without-one w row j r s hr hs f g = told-one _ w r s hr hs (f .bits) (g .bits)
 
-  pub join-one : (a b : ℕ) → Join a b r → Join a b s → r ≡ s
-  join-one a b f g = told-one _ w r s hr hs (f .bits) (g .bits)
+pub join-one : (w a b : ℕ) → DeterminesRow w (Join a b)
+join-one w a b r s hr hs f g = told-one _ w r s hr hs (f .bits) (g .bits)
 
-pub lowest-one : (w row r s : ℕ) → Lowest w row r → Lowest w row s → r ≡ s
+pub lowest-one : (w row : ℕ) → Determines (Lowest w row)
 lowest-one w row r s f g = omega (arith, f .least s (g .bit), g .least r (f .bit))
 
-pub ones-one : (w row r s : ℕ) → Ones w row r → Ones w row s → r ≡ s
+pub ones-one : (w row : ℕ) → Determines (Ones w row)
 ones-one w row r s f g = counts-one (Bit row) w r s (f .counted) (g .counted)
 
--- each row is one of w bits
-abbrev pub Wide : ℕ → List ℕ → Type 0
-Wide w rows = (i : ℕ) → getD rows i 0 < 2 ^ w
+-- ---- arrays of rows
+
+-- what is equal below n and kept from n on
+pub kept-one : (n : ℕ) (given r s : List ℕ) → Kept n given r → Kept n given s → ((i : ℕ) → i < n → getD r i 0 ≡ getD s i 0) → r ≡ s
+kept-one n given r s f g same = ext-getD 0 r s (f .long ∙ sym (g .long)) (λ i h. go i (decLt i n))
+  where
+    go : (i : ℕ) → Dec (i < n) → getD r i 0 ≡ getD s i 0
+    go i (yes h) = same i h
+    go i (no h) = f .rest i (omega arith) ∙ sym (g .rest i (omega arith))
+
+-- the first n rows say a relation, and the rest is kept
+pub relation-one : (R : ℕ → ℕ → Type 0) (w n : ℕ) (given : List ℕ)
+    → DeterminesRows w (λ rows. ((i j : ℕ) → i < n → Bit (getD rows i 0) j ↔ R i j) × Kept n given rows)
+relation-one R w n given r s hr hs f g =
+    kept-one n given r s (f .1) (g .1) (λ i h. told-one (R i) w (getD r i 0) (getD s i 0) (hr i) (hs i) (λ j. f .0 i j h) (λ j. g .0 i j h))
+
+-- every row says a relation
+pub words-one : (n : ℕ) (R : ℕ → ℕ → Type 0) → DeterminesWords n (λ rows. (i j : ℕ) → Bit (getD rows i 0) j ↔ R i j)
+words-one n R r s u v f g =
+    ext-getD 0 r s (u .long ∙ sym (v .long)) (λ i h. told-one (R i) 32 (getD r i 0) (getD s i 0) (u .small i) (v .small i) (f i) (g i))

@@ -1,6 +1,5 @@
 -- Rows of bits are accepted.
 use Prim.Native.Nat.{ℕ, _<_, _/_, _%_, _^_}
-use mathlib.Core.Path.{_≡_}
 use mathlib.Core.List.{List}
 use native.Mathlib.Decide.{ℕ-discrete, decLt}
 use lib.ListN.{getD}

@@ -1,15 +1,14 @@
 -- The fourteen cases of the proved table, by one computed test.
-use Prim.Native.Nat.{ℕ, zero, suc, _<_, _≤_}
-use mathlib.Core.Path.{_≡_, refl, sym, subst, ap, _∙_}
-use mathlib.Core.Logic.{_⊎_, inl, inr, ⊎-elim, _↔_}
+use Prim.Native.Nat.{ℕ, _<_}
+use mathlib.Core.Path.{_≡_, refl, sym, subst, ap}
+use mathlib.Core.Logic.{inl, inr, ⊎-elim}
 use mathlib.Core.Bool.{Bool, true, false, not, _&&_, _||_}
 use mathlib.Core.List.{List, [], _∷_, _++_}
 use native.Mathlib.Omega.{arith}
-use lib.Dec.{T, eqb, ltb, T-not}
-use lib.ListN.{length, getD}
+use lib.Dec.{T, eqb, ltb}
+use lib.ListN.{length}
 use Rattle.rules.specs.Lists.{_∈_, Some}
-use Rattle.rules.specs.Walks.{Rel}
-use Rattle.rules.specs.Rules.{Relations, Mapping, Waits, Step, Fit, Trigger, message, event, Outcome, stall, go, Cell, Causes, Enters, Carrier, Stalls, ofCells}
+use Rattle.rules.specs.Rules.{Relations, Mapping, Waits, Step, Trigger, message, event, Outcome, stall, go, Cell, Causes, Enters, Carrier, Stalls}
 use Rattle.rules.specs.Plan.{Word, waits, queues, Says}
 use Rattle.rules.specs.Promises.{Accepted}
 use Rattle.rules.specs.Cases.{Given, relations, tables, relationsOf, Listed, Answer, networks, cycle, fit, unfit, mapOf, Worded, Words, Right, Case, AllRight, cases, moreCases}

@@ -1,13 +1,13 @@
 -- A closed walk that is longer than there are messages can be cut short; so the shown cycle is found among finitely many lists.
-use Prim.Native.Nat.{ℕ, zero, suc, _+_, _<_, _≤_}
+use Prim.Native.Nat.{ℕ, zero, suc, _<_, _≤_}
 use mathlib.Core.Path.{_≡_, refl, sym, subst, ap, _∙_}
-use mathlib.Core.Logic.{_⊎_, inl, inr, ⊎-elim}
+use mathlib.Core.Logic.{_⊎_, inl, inr}
 use mathlib.Core.List.{List, [], _∷_, _++_, append-assoc}
 use native.Mathlib.Decide.{ℕ-discrete, decLe, decLt}
 use native.Mathlib.Omega.{arith}
 use lib.ListN.{length, length-append}
 use Rattle.rules.specs.Lists.{_∈_, _≼_, Distinct}
-use Rattle.rules.specs.Walks.{Rel, Chain, Plus, Begins}
+use Rattle.rules.specs.Walks.{Rel, Chain, Begins}
 use Rattle.rules.specs.Plan.{Closed, Shown}
 use Rattle.rules.proofs.Pigeon.{in?, at-most}
 use Rattle.rules.proofs.Search.{First, None, first-below}

@@ -1,14 +1,14 @@
 -- For an accepted protocol: waits and queues are pairs of messages, and can be told; an unfit mapping's closed walks are those that can be shown.
-use Prim.Native.Nat.{ℕ, zero, suc, _<_, _≤_}
-use mathlib.Core.Path.{_≡_, refl, sym, subst, ap, _∙_}
+use Prim.Native.Nat.{ℕ, _<_}
+use mathlib.Core.Path.{_≡_, refl}
 use mathlib.Core.Logic.{_⊎_, inl, inr, ⊎-elim}
 use mathlib.Core.List.{List, [], _∷_, _++_}
-use native.Mathlib.Decide.{ℕ-discrete, decLe, decLt}
+use native.Mathlib.Decide.{ℕ-discrete, decLt}
 use Rattle.rules.specs.Walks.{Rel, Chain, Plus, Somewhere, Begins}
 use Rattle.rules.specs.Rules.{Relations, Mapping, Waits, Stalled, Queues, Step, Unfit, WaitsCycle}
 use Rattle.rules.specs.Plan.{Closed}
 use Rattle.rules.specs.Promises.{Accepted}
-use Rattle.rules.proofs.Chains.{Star, plus-one, plus-cons, star-trans}
+use Rattle.rules.proofs.Chains.{Star, plus-one, star-trans}
 use Rattle.rules.proofs.Search.{some-below?, plus?}
 
 plus-end : (R : Rel) (n : ℕ) → ((a b : ℕ) → R a b → (a < n) × (b < n)) → (a b : ℕ) (l : List ℕ) → Chain R a (l ++ b ∷ []) → b < n

@@ -1,7 +1,9 @@
 -- Two results that the contract of a function of this crate allows are equal. (What the rules determine: `determined` in Promises.)
 use Prim.Native.Nat.{ℕ}
-use mathlib.Core.Path.{_≡_, _∙_, sym}
+use mathlib.Core.Path.{_≡_}
+use Rattle.determined.specs.Determined.{Determines}
+use Rattle.determined.proofs.Equal.{equal}
 
 -- Message::index, Network::index, State::index and Event::index: the result is the number itself.
-pub index : (number r s : ℕ) → r ≡ number → s ≡ number → r ≡ s
-index number r s e f = e ∙ sym f
+pub index : (number : ℕ) → Determines (λ (r : ℕ). r ≡ number)
+index number = equal _

@@ -1,11 +1,11 @@
 -- Whether refusal 13 is given for a cell can be told. (These unfold, so that the reading of a text can be computed.)
 use Prim.Native.Nat.{ℕ}
 use mathlib.Core.Path.{_≡_, refl, ap}
-use mathlib.Core.Logic.{_⊎_, inl, inr, _≢_}
+use mathlib.Core.Logic.{_⊎_, inl, inr}
 use mathlib.Core.List.{List, [], _∷_}
 use native.Mathlib.Decide.{ℕ-discrete}
 use native.Mathlib.Omega.{arith}
-use Rattle.rules.specs.Lists.{_∈_, Some}
+use Rattle.rules.specs.Lists.{Some}
 use Rattle.rules.specs.Rules.{Trigger, message, event, Outcome, stall, go, Cell, Enters, Carrier, Carries, NoEntry}
 
 pub some-map : (P Q : Cell → Type 0) → ((c : Cell) → P c → Q c) → (cells : List Cell) → Some P cells → Some Q cells

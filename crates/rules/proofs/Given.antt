@@ -1,14 +1,13 @@
 -- Tables whose numbers are in range are accepted.
 use Prim.Native.Nat.{ℕ, zero, suc, _<_}
-use mathlib.Core.Path.{_≡_, refl, sym, subst, ap, _∙_}
-use mathlib.Core.Logic.{_⊎_, inl, inr, ⊎-elim, _≢_}
+use mathlib.Core.Path.{_≡_, refl, sym, subst}
+use mathlib.Core.Logic.{inl, inr}
 use mathlib.Core.List.{List, [], _∷_}
 use native.Mathlib.Decide.{ℕ-discrete}
 use native.Mathlib.Omega.{arith}
 use lib.ListN.{length, getD}
 use Rattle.rules.specs.Lists.{_∈_, Some}
-use Rattle.rules.specs.Walks.{Rel}
-use Rattle.rules.specs.Rules.{Relations, Trigger, message, event, Outcome, stall, go, Cell, Causes, Enters, Carrier, StallsIn, Carries, Stalls, ofCells, Trigger-discrete, Outcome-discrete}
+use Rattle.rules.specs.Rules.{Trigger, message, event, Outcome, stall, go, Cell, Enters, Carrier, Carries, Stalls, ofCells, Trigger-discrete, Outcome-discrete}
 use Rattle.rules.specs.Promises.{Accepted}
 use Rattle.rules.proofs.Pigeon.{in?}
 use Rattle.rules.proofs.Decided.{both?}

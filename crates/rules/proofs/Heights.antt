@@ -1,8 +1,8 @@
 -- A relation on the numbers below n that has no cycle: from each number there is a longest chain, of fewer than n steps.
 use Prim.Native.Nat.{ℕ, zero, suc, _<_, _≤_}
-use mathlib.Core.Path.{_≡_, refl, sym, subst, ap, _∙_}
-use mathlib.Core.Logic.{_⊎_, inl, inr, ⊎-elim}
-use mathlib.Core.List.{List, [], _∷_, _++_}
+use mathlib.Core.Path.{_≡_, refl, ap}
+use mathlib.Core.Logic.{_⊎_, inl, inr}
+use mathlib.Core.List.{List, [], _∷_}
 use native.Mathlib.Decide.{decLe, decLt}
 use native.Mathlib.Omega.{arith}
 use lib.ListN.{length}
@@ -34,7 +34,7 @@ module _ (R : Rel) (n : ℕ) (within : (a b : ℕ) → R a b → (a < n) × (b <
   chain-plus m (b ∷ l) c x (inl e) = rw e (plus-one m b (c .0))
   chain-plus m (b ∷ l) c x (inr i) = plus-cons m b x (c .0) (chain-plus b l (c .1) x i)
 
-  chain-in : (m : ℕ) (l : List ℕ) → m < n → Chain R m l → (x : ℕ) → x ∈ (m ∷ l) → x < n
+  pub chain-in : (m : ℕ) (l : List ℕ) → m < n → Chain R m l → (x : ℕ) → x ∈ (m ∷ l) → x < n
   chain-in m [] h c x (inl e) = rw e h
   chain-in m [] h c x (inr i) = absurd i
   chain-in m (b ∷ l) h c x (inl e) = rw e h

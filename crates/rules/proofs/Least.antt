@@ -1,16 +1,16 @@
 -- The printed mapping is fit and uses as many networks as the longest waits chain has messages; no fit mapping uses fewer.
-use Prim.Native.Nat.{ℕ, zero, suc, _<_, _≤_, zero-le, suc-le-suc}
-use mathlib.Core.Path.{_≡_, refl, sym, subst, ap, _∙_}
-use mathlib.Core.Logic.{_⊎_, inl, inr, ⊎-elim}
+use Prim.Native.Nat.{ℕ, suc, _<_, _≤_}
+use mathlib.Core.Path.{_≡_, ap, _∙_}
+use mathlib.Core.Logic.{inl, inr}
 use mathlib.Core.List.{List, [], _∷_, _++_, map}
-use native.Mathlib.Nat.{lt-irrefl, le-trans, lt-trans}
+use native.Mathlib.Nat.{lt-irrefl}
 use native.Mathlib.Decide.{ℕ-discrete}
 use native.Mathlib.Omega.{arith}
 use lib.ListN.{length, length-map}
 use Rattle.rules.specs.Lists.{_∈_, Distinct}
-use Rattle.rules.specs.Walks.{Rel, Chain, Plus}
+use Rattle.rules.specs.Walks.{Chain, Plus}
 use Rattle.rules.specs.Rules.{Relations, Mapping, Waits, Fit, Leads}
-use Rattle.rules.specs.Plan.{Uses, LeastCount, Height, Printed, LongestChain}
+use Rattle.rules.specs.Plan.{Uses, LeastCount, Printed, LongestChain}
 use Rattle.rules.proofs.Chains.{plus-one, plus-cons}
 use Rattle.rules.proofs.Networks.{networks-alone, lead}
 use Rattle.rules.proofs.Pigeon.{pigeon, below, below-length, below-in, in-below, below-distinct, in-map}
@@ -87,3 +87,16 @@ module _ (p : Relations) (within : (m k : ℕ) → Waits p m k → (m < p .count
     uses = printed-uses φ printed k t;
     least = λ ψ j fit u. omega (arith, at-least ψ fit (t .start) (t .rest) (t .message) (t .chain) j u, t .messages);
   }
+
+-- a message that is as high as any starts a longest chain
+pub longest-from : (p : Relations) (φ : Mapping) → Printed p φ → (x : ℕ) → x < p .count → ((y : ℕ) → y < p .count → φ y ≤ φ x) → (k : ℕ) → suc (φ x) ≡ k → LongestChain p k
+longest-from p φ printed x h top k e =
+    let t = printed x h in
+    record {
+      start = x;
+      message = h;
+      rest = t .rest;
+      chain = t .chain;
+      messages = ap suc (t .steps) ∙ e;
+      longest = λ m l hm c. omega (arith, printed m hm .longest l c, top m hm, e);
+    }

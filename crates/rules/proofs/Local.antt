@@ -1,5 +1,5 @@
 -- Heights, from what a loop can see: who waits is higher, and by one than some message that it waits for.
-use Prim.Native.Nat.{ℕ, zero, suc, _-_, _<_, _≤_, zero-le}
+use Prim.Native.Nat.{ℕ, zero, suc, _<_, _≤_, zero-le}
 use mathlib.Core.Path.{_≡_, refl, ap}
 use mathlib.Core.Logic.{_⊎_, inl, inr}
 use mathlib.Core.List.{List, [], _∷_}
@@ -8,6 +8,7 @@ use lib.ListN.{length}
 use Rattle.rules.specs.Walks.{Chain}
 use Rattle.rules.specs.Rules.{Relations, Mapping, Waits}
 use Rattle.rules.specs.Plan.{Printed, LongestChain}
+use Rattle.rules.proofs.Least.{longest-from}
 
 module _ (p : Relations) (within : (m k : ℕ) → Waits p m k → (m < p .count) × (k < p .count)) (φ : Mapping)
     (down : (m k : ℕ) → Waits p m k → φ k < φ m)
@@ -29,6 +30,4 @@ module _ (p : Relations) (within : (m k : ℕ) → Waits p m k → (m < p .count
   printed-local m hm = let t = chain-of (φ m) m hm refl in record { rest = t .0; chain = t .1; steps = t .2; longest = chain-le m }
 
   pub longest-local : (x : ℕ) → x < p .count → ((y : ℕ) → y < p .count → φ y ≤ φ x) → LongestChain p (suc (φ x))
-  longest-local x hx top =
-      let t = chain-of (φ x) x hx refl in
-      record { start = x; message = hx; rest = t .0; chain = t .1; messages = ap suc (t .2); longest = λ m l hm c. omega (arith, chain-le m l c, top m hm) }
+  longest-local x hx top = longest-from p φ printed-local x hx top (suc (φ x)) refl

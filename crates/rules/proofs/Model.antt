@@ -1,25 +1,24 @@
 -- The rules as tests that compute, over tests `cb` and `sb` for causes and stalls.
 use Prim.Native.Nat.{ℕ, zero, suc, _<_, _≤_}
-use mathlib.Core.Path.{_≡_, refl, sym, subst, ap, _∙_}
-use mathlib.Core.Logic.{_⊎_, inl, inr, ⊎-elim, _↔_}
+use mathlib.Core.Path.{_≡_, refl, subst}
+use mathlib.Core.Logic.{_⊎_, inl, inr, ⊎-elim}
 use mathlib.Core.Bool.{Bool, true, false, not, _&&_, _||_}
-use mathlib.Core.List.{List, [], _∷_, _++_, map}
+use mathlib.Core.List.{List, [], _∷_, _++_}
 use native.Mathlib.Decide.{decLt, decLe}
 use native.Mathlib.Omega.{arith}
 use lib.Dec.{T, eqb, ltb, T-not}
 use lib.ListN.{length, getD}
-use Rattle.rules.specs.Lists.{_∈_, _≼_}
 use Rattle.rules.specs.Walks.{Rel, Chain, Begins, Plus}
-use Rattle.rules.specs.Rules.{Relations, Mapping, Waits, Stalled, Queues, Step, Unfit, Fit}
+use Rattle.rules.specs.Rules.{Relations, Mapping, Waits, Queues, Step, Fit}
 use Rattle.rules.specs.Plan.{LeastCount, Printed, LongestChain, Closed, Shown}
 use Rattle.rules.specs.Promises.{Accepted}
-use Rattle.rules.proofs.Chains.{Star, star-trans}
-use Rattle.rules.proofs.Search.{Via, via-plus, plus-via, below-suc}
+use Rattle.rules.proofs.Chains.{star-trans}
+use Rattle.rules.proofs.Search.{via-plus, plus-via, below-suc}
 use Rattle.rules.proofs.Cycle.{All<, closed-small}
 use Rattle.rules.proofs.Least.{least-count}
 use Rattle.rules.proofs.Local.{printed-local, longest-local}
-use Rattle.rules.proofs.Decided.{waits-within, waits?, step?, step-within, turn}
-use Rattle.rules.proofs.Tests.{Tells, and-tells, or-tells, not-tells, eqb-tells, ltb-tells, dict-tells, dictb, any, all, any-tells, all-tells, tab, tab-at, at, join, join-tells, choose, rounds, rounds-tell}
+use Rattle.rules.proofs.Decided.{waits-within, turn}
+use Rattle.rules.proofs.Tests.{Tells, id-tells, and-tells, or-tells, not-tells, eqb-tells, ltb-tells, dict-tells, dictb, any, all, any-tells, all-tells, tab, tab-at, at, join, join-tells, choose, rounds, rounds-tell}
 
 -- ---- rows
 
@@ -179,9 +178,6 @@ module _ (p : Relations) (acc : Accepted p) (cb sb : ℕ → ℕ → Bool)
             (r .0, s-tells (r .0) b .0 (q .0), closed (r .0) .0 (q .1)),
         λ w. join-all n (λ a. choose (sb a b) (getD clos a []) []) c .1 (w .0, acc .stalls-messages (w .0) b (w .1) .0, choose-nil (sb (w .0) b) (getD clos (w .0) []) c .1 (s-tells (w .0) b .1 (w .1), closed (w .0) .1 (w .2))),
       )
-
-id-tells : (b : Bool) → Tells b (T b)
-id-tells b = (λ t. t, λ t. t)
 
 module _ (p : Relations) (acc : Accepted p) (w : ℕ → ℕ → Bool) (w-tells : (a b : ℕ) → Tells (w a b) (Waits p a b)) (φ : Mapping) where
   plan-down : (k m : ℕ) → T (levelb (p .count) w φ k m) → (j : ℕ) → Waits p m j → φ j < φ m

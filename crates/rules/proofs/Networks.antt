@@ -1,12 +1,12 @@
 -- Judging by the networks alone gives the same answer as the walks over single messages.
 use Prim.Native.Nat.{ℕ, _<_}
-use mathlib.Core.Path.{_≡_, refl, sym, subst, ap, _∙_}
-use mathlib.Core.Logic.{_⊎_, inl, inr, _↔_}
+use mathlib.Core.Path.{_≡_, refl, sym, _∙_}
+use mathlib.Core.Logic.{inl, inr, _↔_}
 use mathlib.Core.List.{List, [], _∷_, _++_}
 use native.Mathlib.Decide.{ℕ-discrete}
-use Rattle.rules.specs.Walks.{Rel, Chain, Plus, Somewhere}
-use Rattle.rules.specs.Rules.{Relations, Mapping, Waits, Stalled, Queues, Step, Unfit, Leads, NetUnfit, WaitsCycle}
-use Rattle.rules.proofs.Chains.{Star, chain-map, plus-map, plus-one, plus-cons, plus-trans, star-plus, plus-star, star-trans}
+use Rattle.rules.specs.Walks.{Chain, Plus, Somewhere}
+use Rattle.rules.specs.Rules.{Relations, Mapping, Waits, Stalled, Step, Unfit, Leads, NetUnfit, WaitsCycle}
+use Rattle.rules.proofs.Chains.{Star, chain-map, plus-one, star-plus, plus-star, star-trans}
 
 module _ (p : Relations) (within : (m k : ℕ) → Waits p m k → (m < p .count) × (k < p .count)) (φ : Mapping) where
   pub lead : (m k : ℕ) → Waits p m k → Leads p φ (φ m) (φ k)

@@ -1,16 +1,16 @@
 -- The promises about the rules hold.
 use Prim.Native.Nat.{ℕ, zero, suc, _+_, _<_, _≤_}
-use mathlib.Core.Path.{_≡_, refl, sym, subst, ap, _∙_}
+use mathlib.Core.Path.{_≡_, refl, subst}
 use mathlib.Core.Logic.{_⊎_, inl, inr}
-use mathlib.Core.List.{List, [], _∷_, _++_}
+use mathlib.Core.List.{List}
 use native.Mathlib.Omega.{arith}
 use lib.ListN.{length}
-use Rattle.rules.specs.Walks.{Rel, Chain, Plus}
+use Rattle.rules.specs.Walks.{Rel}
 use Rattle.rules.specs.Rules.{Relations, Mapping, Waits, Step, Unfit, Fit, WaitsCycle}
 use Rattle.rules.specs.Plan.{Counts, Pairs, Height, Printed, LongestChain, Closed, Shown, PlanCycle, JudgeCycle, Uses, Word, waits, queues, Says}
 use Rattle.rules.specs.Promises.{Accepted, SameVerdict, CycleIsUnfit, GoodPlan, EveryPlan, OneClass, EveryPrinted, EveryJudgement, EveryWord, EveryCount, ShownIsReal, Determined}
 use Rattle.rules.proofs.Networks.{networks-alone, cycle-unfit}
-use Rattle.rules.proofs.Least.{printed-fit, printed-uses, least-count}
+use Rattle.rules.proofs.Least.{printed-fit, printed-uses, least-count, longest-from}
 use Rattle.rules.proofs.Unique.{printed-one, uses-one, least-one, shown-one, word-one, pairs-one}
 use Rattle.rules.proofs.Cycle.{shown?}
 use Rattle.rules.proofs.Heights.{most, heights}
@@ -41,18 +41,10 @@ module _ (p : Relations) (acc : Accepted p) (acyclic : ¬ WaitsCycle p) where
   longest : (n : ℕ) → p .count ≡ suc n → (k : ℕ) × LongestChain p k × (k ≤ p .count)
   longest n e =
       let t = most (λ m. level m .0) n in
-      let h : t .0 < p .count = omega (arith, t .1) in
-      let s = level (t .0) .1 h in (
+      let h : t .0 < p .count = omega (arith, t .1) in (
         suc (level (t .0) .0),
-        record {
-          start = t .0;
-          message = h;
-          rest = s .1 .rest;
-          chain = s .1 .chain;
-          messages = ap suc (s .1 .steps);
-          longest = λ m l hm c. omega (arith, level m .1 hm .1 .longest l c, t .2 m (omega arith));
-        },
-        s .0,
+        longest-from p (λ m. level m .0) (λ m h. level m .1 h .1) (t .0) h (λ y k. t .2 y (omega arith)) (suc (level (t .0) .0)) refl,
+        level (t .0) .1 h .0,
       )
 
   good-plan : GoodPlan p

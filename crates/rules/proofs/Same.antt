@@ -1,5 +1,5 @@
 -- Relations that hold of the same pairs give the same answers.
-use Prim.Native.Nat.{ℕ, zero, suc, _+_, _-_}
+use Prim.Native.Nat.{ℕ, zero, suc}
 use mathlib.Core.Logic.{inl, inr, _↔_}
 use mathlib.Core.List.{List, [], _∷_, _++_}
 use Rattle.rules.specs.Walks.{Rel, Chain, Begins}

@@ -1,12 +1,12 @@
 -- Tests that compute, and what they tell.
-use Prim.Native.Nat.{ℕ, zero, suc, _<_, _≤_}
-use mathlib.Core.Path.{_≡_, refl, sym, subst, ap, _∙_}
+use Prim.Native.Nat.{ℕ, zero, suc, _<_}
+use mathlib.Core.Path.{_≡_, refl, subst}
 use mathlib.Core.Logic.{_⊎_, inl, inr, ⊎-elim, _↔_}
 use mathlib.Core.Bool.{Bool, true, false, not, _&&_, _||_}
 use mathlib.Core.List.{List, [], _∷_, map}
 use native.Mathlib.Omega.{arith}
-use lib.Dec.{T, eqb, eqb→eq, eqb-refl, leb, leb→le, le→leb, ltb, ltb→lt, lt→ltb, T-not, not-T}
-use lib.ListN.{length, getD}
+use lib.Dec.{T, eqb, eqb→eq, eqb-refl, ltb, ltb→lt, lt→ltb, T-not, not-T}
+use lib.ListN.{getD}
 use Rattle.rules.proofs.Search.{Via, below-suc}
 use Rattle.rules.specs.Lists.{_∈_, _≼_}
 
@@ -105,13 +105,13 @@ abbrev pub rounds : ℕ → List (List Bool) → List (List Bool)
 rounds zero rows = rows
 rounds (suc k) rows = round k (rounds k rows)
 
-same : (b : Bool) → Tells b (T b)
-same b = (λ t. t, λ t. t)
+pub id-tells : (b : Bool) → Tells b (T b)
+id-tells b = (λ t. t, λ t. t)
 
 pub join-tells : (x y : List Bool) (b : ℕ) → Tells (getD (join x y) b false) (T (getD x b false) ⊎ T (getD y b false))
 join-tells [] y b = (λ t. inr t, ⊎-elim (λ t. absurd t) (λ t. t))
 join-tells (a ∷ x) [] b = (λ t. inl t, ⊎-elim (λ t. t) (λ t. absurd t))
-join-tells (a ∷ x) (c ∷ y) zero = or-tells a c (same a) (same c)
+join-tells (a ∷ x) (c ∷ y) zero = or-tells a c (id-tells a) (id-tells c)
 join-tells (a ∷ x) (c ∷ y) (suc b) = join-tells x y b
 
 choose-tells : (t : Bool) (x r : List Bool) (b : ℕ) → Tells (getD (choose t (join x r) x) b false) (T (getD x b false) ⊎ (T t × T (getD r b false)))

@@ -1,15 +1,14 @@
 -- The rules determine what is printed: two answers that they allow are equal.
 use Prim.Native.Nat.{ℕ, zero, suc, _<_, _≤_}
-use mathlib.Core.Path.{_≡_, refl, sym, subst, ap, ap₂, _∙_}
-use mathlib.Core.Logic.{_⊎_, inl, inr}
-use mathlib.Core.List.{List, [], _∷_, _++_}
-use native.Mathlib.Nat.{lt-irrefl, lt-trans}
+use mathlib.Core.Path.{_≡_, refl, sym, ap₂, _∙_}
+use mathlib.Core.Logic.{inl, inr}
+use mathlib.Core.List.{List, [], _∷_}
 use native.Mathlib.Omega.{arith}
 use lib.ListN.{length}
-use Rattle.rules.specs.Lists.{_∈_, _≼_, Distinct}
-use Rattle.rules.specs.Walks.{Rel, Chain}
-use Rattle.rules.specs.Rules.{Relations, Mapping, Waits, Fit}
-use Rattle.rules.specs.Plan.{Uses, LeastCount, Height, Printed, LongestChain, Counts, Pairs, Closed, Shown, Word, waits, queues, Says}
+use Rattle.rules.specs.Lists.{_≼_}
+use Rattle.rules.specs.Walks.{Rel}
+use Rattle.rules.specs.Rules.{Relations, Mapping, Waits}
+use Rattle.rules.specs.Plan.{Uses, LeastCount, Height, Printed, Counts, Pairs, Shown, Word, waits, queues, Says}
 use Rattle.rules.proofs.Pigeon.{pigeon}
 
 -- ---- numbers

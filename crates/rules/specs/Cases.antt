@@ -5,7 +5,7 @@ use mathlib.Core.Logic.{_⊎_}
 use mathlib.Core.List.{List, [], _∷_, _++_}
 use lib.ListN.{length, getD}
 use Rattle.rules.specs.Walks.{Rel}
-use Rattle.rules.specs.Rules.{MessageNo, NetworkNo, Cell, Trigger, message, event, Outcome, stall, go, Relations, ofCells, Mapping, Fit}
+use Rattle.rules.specs.Rules.{MessageNo, NetworkNo, Cell, message, event, stall, go, Relations, ofCells, Mapping, Fit}
 use Rattle.rules.specs.Plan.{LeastCount, Printed, PlanCycle, JudgeCycle, Word, waits, queues, Says}
 
 -- f 0, f 1, up to f (n - 1)

@@ -1,11 +1,9 @@
 -- A section's loop: what holds whenever its test is reached, and how each line carries it on.
 use Prim.Native.Nat.{ℕ, _+_, _<_}
 use mathlib.Core.Path.{_≡_, sym, ap, subst, _∙_}
-use mathlib.Core.Bool.{false}
 use mathlib.Core.List.{List}
 use native.Mathlib.Omega.{arith}
 use lib.ListN.{length, drop}
-use lib.Dec.{leb}
 use borrow.Author.Tests.{lt-ltb, leb-false}
 use Rattle.text.specs.Parts.{place, split, lines}
 use Rattle.papers.specs.Checks.{refusal}
@@ -33,9 +31,6 @@ pub record Going (s : Section) (text : List ℕ) (from from-line : ℕ) (t₀ : 
   pub kept : Kept t
   pub placed : Placed text at line
   pub stage : Stage s text at t
-
-pub below : (a b : ℕ) → leb a b ≡ false → b < a
-below a b e = omega (arith, leb-false a b e)
 
 module _ (s : Section) (text : List ℕ) (from from-line : ℕ) (t₀ : Tables) (at line : ℕ) (t : Tables) (g : Going s text from from-line t₀ at line t) (h : at < length text) where
   abbrev end : ℕ
@@ -72,7 +67,7 @@ module _ (text : List ℕ) (from from-line : ℕ) (t₀ : Tables) (at line : ℕ
       let p = passed-as message n e r z in
       record {
         on = next-on message text from from-line t₀ at line t g h n r z (withMessage t row) (stored-as message e ∙ ap (withMessage t) (sym q));
-        kept = kept-message t (g .kept) row (below 32 (t .«message_count») (p .room));
+        kept = kept-message t (g .kept) row (leb-false 32 (t .«message_count») (p .room));
         placed = next-placed message text from from-line t₀ at line t g h;
         stage = g .stage;
       }
@@ -84,7 +79,7 @@ module _ (text : List ℕ) (from from-line : ℕ) (t₀ : Tables) (at line : ℕ
       let p = passed-as event n e r z in
       record {
         on = next-on event text from from-line t₀ at line t g h n r z (withEvent t row) (stored-as event e ∙ ap (withEvent t) (sym q));
-        kept = kept-event t (g .kept) row (below 8 (t .«event_count») (p .room));
+        kept = kept-event t (g .kept) row (leb-false 8 (t .«event_count») (p .room));
         placed = next-placed event text from from-line t₀ at line t g h;
         stage = (g .stage .0, g .stage .1, λ k w. lt-ltb 0 (t .«event_count» + 1 + t .«state_count» + t .«cell_count») (omega arith));
       }
@@ -96,7 +91,7 @@ module _ (text : List ℕ) (from from-line : ℕ) (t₀ : Tables) (at line : ℕ
       let p = passed-as state n e r z in
       record {
         on = next-on state text from from-line t₀ at line t g h n r z (withState t row) (stored-as state e ∙ ap (withState t) (sym q));
-        kept = kept-state t (g .kept) row (below 64 (t .«state_count») (p .room));
+        kept = kept-state t (g .kept) row (leb-false 64 (t .«state_count») (p .room));
         placed = next-placed state text from from-line t₀ at line t g h;
         stage = (
           g .stage .0,
@@ -113,7 +108,7 @@ module _ (text : List ℕ) (from from-line : ℕ) (t₀ : Tables) (at line : ℕ
       let p = passed-as cell n e r z in
       record {
         on = next-on cell text from from-line t₀ at line t g h n r z (withCell t c) (stored-as cell e ∙ ap (withCell t) (sym q));
-        kept = kept-cell t (g .kept) c (below 512 (t .«cell_count») (p .room)) ok;
+        kept = kept-cell t (g .kept) c (leb-false 512 (t .«cell_count») (p .room)) ok;
         placed = next-placed cell text from from-line t₀ at line t g h;
         stage = (
           λ k w. lt-ltb 0 (t .«event_count» + t .«state_count» + (t .«cell_count» + 1)) (omega arith),

@@ -6,9 +6,10 @@ use native.Mathlib.Numerals.{add-one}
 use lib.ListN.{length, drop}
 use borrow.Author.Tests.{ne-eqb}
 use Rattle.text.specs.Parts.{place, split, lines}
+use Rattle.text.proofs.Lines.{lines-end}
 use Rattle.papers.specs.Checks.{refusal}
 use Rattle.papers.specs.Lined.{Lined}
-use Rattle.papers.proofs.Walk.{walk-next, walk-end}
+use Rattle.papers.proofs.Walk.{walk-next}
 use Rattle.tables.specs.declared.Tables.{Tables}
 use Rattle.records.specs.Told.{tells, Refuses}
 use Rattle.records.specs.Checks.{lineRefusal}
@@ -40,4 +41,4 @@ module _ (text : List ℕ) (at : ℕ) (lined : Lined text at) (h : at < length t
 -- the end of the text
 pub step-end : (text : List ℕ) (at line : ℕ) (t : Tables) → length text ≤ at → readLines line (lines (drop at text)) t ≡ unless (wholeRefusal t) (accepted t)
 unfolding readLines
-step-end text at line t h = rw (walk-end text at h) refl
+step-end text at line t h = rw (lines-end text at h) refl

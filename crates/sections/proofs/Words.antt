@@ -1,10 +1,9 @@
 -- A line of a section has that section's word.
-use Prim.Native.Nat.{ℕ}
 use mathlib.Core.Path.{_≡_, refl, subst}
 use mathlib.Core.Bool.{Bool, true, false}
-use native.Mathlib.Omega.{arith}
 use Rattle.text.specs.Words.{messageWord, eventWord, stateWord, cellWord}
 use Rattle.records.specs.Line.{Line, says, Section, message, event, state, cell, unknown, pickSection, sectionOf}
+use Rattle.records.proofs.Both.{not-both}
 
 abbrev pickOf : Bool → Bool → Bool → Bool → Section
 pickOf a b c d = pickSection a message (pickSection b event (pickSection c state (pickSection d cell unknown)))
@@ -35,8 +34,5 @@ section-says f = picked-by (says f 0 messageWord) (says f 0 eventWord) (says f 0
 pub says-it : (s : Section) (f : Line) → sectionOf f ≡ s → saysOf s f ≡ true
 says-it s f q = subst (λ (x : Section). saysOf x f ≡ true) q (section-says f)
 
-differ : (a : Bool) → a ≡ false → a ≡ true → ⊥
-differ a e q = let z : _≡_ {A = ℕ} 0 1 = cc in omega arith
-
 pub not-in : (s : Section) (f : Line) → saysOf s f ≡ false → sectionOf f ≡ s → ⊥
-not-in s f e q = differ (saysOf s f) e (says-it s f q)
+not-in s f e q = not-both (saysOf s f) e (says-it s f q)

@@ -3,6 +3,8 @@ use Prim.Native.Nat.{ℕ}
 use mathlib.Core.Path.{_≡_, sym, _∙_}
 use mathlib.Core.Bool.{Bool}
 use mathlib.Core.List.{List}
+use Rattle.determined.specs.Determined.{Determines}
+use Rattle.determined.proofs.Equal.{equal}
 use Rattle.text.specs.Parts.{split}
 use Rattle.records.specs.declared.FoundKind.{FoundKind}
 use Rattle.records.specs.Line.{event}
@@ -11,14 +13,14 @@ use Rattle.shapes.specs.declared.StateWords.{StateWords}
 use Rattle.shapes.specs.Shapes.{messageShape, stateShape, Misplaced}
 
 module _ (line : List ℕ) where
-  pub message-shape-determined : (r s : FoundKind) → r ≡ messageShape (split 9 line) → s ≡ messageShape (split 9 line) → r ≡ s
-  message-shape-determined r s p q = p ∙ sym q
+  pub message-shape-determined : Determines (λ (r : FoundKind). r ≡ messageShape (split 9 line))
+  message-shape-determined = equal _
 
-  pub event-shape-determined : (r s : Bool) → r ≡ shaped event (split 9 line) → s ≡ shaped event (split 9 line) → r ≡ s
-  event-shape-determined r s p q = p ∙ sym q
+  pub event-shape-determined : Determines (λ (r : Bool). r ≡ shaped event (split 9 line))
+  event-shape-determined = equal _
 
-  pub state-shape-determined : (r s : StateWords) → r ≡ stateShape (split 9 line) → s ≡ stateShape (split 9 line) → r ≡ s
-  state-shape-determined r s p q = p ∙ sym q
+  pub state-shape-determined : Determines (λ (r : StateWords). r ≡ stateShape (split 9 line))
+  state-shape-determined = equal _
 
-  pub misplaced-determined : (r s : ℕ) → Misplaced line r → Misplaced line s → r ≡ s
+  pub misplaced-determined : Determines (Misplaced line)
   misplaced-determined r s p q = p .is ∙ sym (q .is)

@@ -22,17 +22,14 @@ use Rattle.records.specs.Told.{FieldsAre}
 use Rattle.records.specs.Found.{foundKind, foundController, foundStability}
 use Rattle.shapes.specs.Shapes.{messageShape, stateShape}
 use Rattle.records.proofs.Words.{found-is, found-nothing, controller-is, controller-nothing, stability-is, stability-nothing, count-same}
+use Rattle.records.proofs.Both.{and-left}
 
 -- ---- the fields of a shaped line
-
-and-first : (a b : Bool) → (a && b) ≡ true → a ≡ true
-and-first true b e = refl
-and-first false b e = e
 
 module _ (line : List ℕ) (f : Fields) (are : FieldsAre line f) where
   pub message-count : shaped message (split 9 line) ≡ true → f .count ≡ 3
   message-count e =
-      eqb-true (f .count) 3 (count-same line f are 3 (omega arith) ∙ and-first (eqb (length (split 9 line)) 3) (isKind (field (split 9 line) 2)) e)
+      eqb-true (f .count) 3 (count-same line f are 3 (omega arith) ∙ and-left (eqb (length (split 9 line)) 3) (isKind (field (split 9 line) 2)) e)
 
   pub event-count : shaped event (split 9 line) ≡ true → f .count ≡ 2
   event-count e = eqb-true (f .count) 2 (count-same line f are 2 (omega arith) ∙ e)
@@ -41,7 +38,7 @@ module _ (line : List ℕ) (f : Fields) (are : FieldsAre line f) where
   state-count e =
       eqb-true (f .count) 4
       (count-same line f are 4 (omega arith)
-      ∙ and-first (eqb (length (split 9 line)) 4) (isController (field (split 9 line) 1) && isStability (field (split 9 line) 3)) e)
+      ∙ and-left (eqb (length (split 9 line)) 4) (isController (field (split 9 line) 1) && isStability (field (split 9 line) 3)) e)
 
 -- ---- whole lines
 

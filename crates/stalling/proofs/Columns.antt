@@ -1,16 +1,15 @@
 -- A column: one number beside each of a row.
-use Prim.Native.Nat.{ℕ, _+_, _≤_, _<_, _/_, _^_}
+use Prim.Native.Nat.{ℕ, _+_, _≤_, _<_, _^_}
 use mathlib.Core.Path.{_≡_, refl, sym, subst, _∙_}
 use mathlib.Core.Logic.{_⊎_, inl, inr, ⊎-elim, _↔_}
 use mathlib.Core.List.{List}
 use native.Mathlib.Decide.{ℕ-discrete, decLt}
-use native.Mathlib.Nat.{div-eq-of-lt}
 use native.Mathlib.Omega.{arith}
 use lib.ListN.{length, getD, set, length-set}
-use lib.Pow.{pow-mono}
 use lib.Seq.{getD-set-same, getD-set-other}
 use Rattle.rows.specs.Rows.{Bit}
 use Rattle.rows.specs.Row.{With}
+use Rattle.rows.proofs.Bits.{bit-below}
 use Rattle.tables.specs.Relations.{Adds}
 use Rattle.stalling.specs.AtCell.{Column}
 
@@ -20,17 +19,6 @@ pub record Columns (who b : ℕ) (old : List ℕ) (a : ℕ) (new : List ℕ) : T
   pub long : length new ≡ 32
   pub done : (x : ℕ) → x < a → (j : ℕ) → Bit (getD new x 0) j ↔ (Bit (getD old x 0) j ⊎ Column who b x j)
   pub rest : (x : ℕ) → a ≤ x → getD new x 0 ≡ getD old x 0
-
--- the bits of a row of w bits are below w
-bit-below : (w row j : ℕ) → row < 2 ^ w → Bit row j → j < w
-bit-below w row j h b = pick (decLt j w)
-  where
-    pick : Dec (j < w) → j < w
-    pick (yes k) = k
-    pick (no g) = let z : row / 2 ^ j ≡ 0 = div-eq-of-lt (lt-le-trans row (2 ^ w) (2 ^ j) h (pow-mono (omega arith))) in absurd (omega arith)
-      where
-        lt-le-trans : (x y z : ℕ) → x < y → y ≤ z → x < z
-        lt-le-trans x y z p q = omega arith
 
 module _ (who b : ℕ) (old : List ℕ) where
   pub columns-start : length old ≡ 32 → Columns who b old 0 old

@@ -1,5 +1,5 @@
 -- Rule 5 in rows: what the loops over the messages keep.
-use Prim.Native.Nat.{ℕ, _+_, _<_, _≤_, _^_, _/_, _%_}
+use Prim.Native.Nat.{ℕ, _+_, _<_, _≤_, _^_}
 use mathlib.Core.Path.{_≡_, sym, subst}
 use mathlib.Core.Bool.{Bool, true, false}
 use mathlib.Core.Logic.{_⊎_, inl, inr, ⊎-elim, _≢_, _↔_}
@@ -8,7 +8,7 @@ use native.Mathlib.Decide.{ℕ-discrete}
 use native.Mathlib.Omega.{arith}
 use lib.ListN.{getD, replicate}
 use Rattle.rules.specs.Rules.{Mapping, Queues}
-use Rattle.rows.specs.Rows.{Bit, Rows, ofRows}
+use Rattle.rows.specs.Rows.{Bit, ofRows}
 use Rattle.rows.specs.Row.{With, Join}
 use Rattle.rows.proofs.Bits.{bit-zero}
 use Rattle.rows.proofs.Filling.{Filling, fill-each, fill-kept}

@@ -4,7 +4,7 @@ use mathlib.Core.Path.{_≡_, refl, sym, subst, ap, _∙_}
 use mathlib.Core.List.{List, [], _∷_, _++_, map}
 use native.Mathlib.Numerals.{add-one}
 use native.Mathlib.Omega.{arith}
-use lib.ListN.{length, take, drop, set, replicate, length-drop, length-replicate}
+use lib.ListN.{length, take, drop, set, replicate}
 use lib.Seq.{take-suc-set, drop-set-lt, drop-drop}
 use Rattle.tables.specs.declared.MessageRow.{MessageRow}
 use Rattle.tables.specs.declared.EventRow.{EventRow}
@@ -12,7 +12,7 @@ use Rattle.tables.specs.declared.StateRow.{StateRow}
 use Rattle.tables.specs.declared.Cell.{Cell}
 use Rattle.tables.specs.declared.Tables.{Tables}
 use Rattle.tables.specs.Tables.{noMessage, noEvent, noState, noCell, clearedTables, messagesOf, eventsOf, statesOf, storedOf, withMessage, withEvent, withState, withCell, ClearedPast}
-use Rattle.tables.specs.Cells.{cellOf, cellsOf, Each, CellOk, TablesOk}
+use Rattle.tables.specs.Cells.{cellOf, Each, CellOk, TablesOk}
 use Rattle.tables.proofs.Gather.{each-snoc, each-map}
 use Rattle.tables.proofs.InRange.{cell-more}
 

@@ -4,6 +4,7 @@ use mathlib.Core.Path.{_≡_, refl, sym, _∙_}
 use mathlib.Core.Bool.{Bool, true, false}
 use mathlib.Core.List.{List}
 use lib.ListN.{replicate}
+use Rattle.determined.specs.Determined.{Determines}
 use Rattle.rules.specs.declared.Message.{Message}
 use Rattle.rules.specs.declared.State.{State}
 use Rattle.tables.specs.declared.Controller.{Controller}
@@ -22,7 +23,7 @@ same : {k k′ : Bool} {s s′ : State} {l l′ : List Message} {n n′ : ℕ} �
 same a b c d = cc
 
 pub target-of-determined : (f : Line) (whose : Controller) (messages : List MessageRow) (message-count : ℕ) (states : List StateRow) (state-count : ℕ)
-    (r s : Target) → TargetTold f whose messages message-count states state-count r → TargetTold f whose messages message-count states state-count s → r ≡ s
+    → Determines (TargetTold f whose messages message-count states state-count)
 target-of-determined f whose messages message-count states state-count r s p q = go (r .known) refl
   where
     t : Tables

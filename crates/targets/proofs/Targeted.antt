@@ -13,8 +13,8 @@ use Rattle.names.specs.declared.FoundState.the-variants.{At as StateAt, Nothing
 use Rattle.names.specs.Names.{stateNamed, isState, foundState}
 use Rattle.records.specs.Line.{Line, field, sentFields, sentOf}
 use Rattle.records.specs.Checks.{allMessages}
+use Rattle.records.proofs.Both.{not-both}
 use Rattle.places.proofs.Named.{state-known, state-unknown}
-use Rattle.places.proofs.Placed.{never}
 use Rattle.targets.specs.declared.Sent.{Sent}
 use Rattle.targets.specs.declared.Target.{Target}
 use Rattle.targets.specs.Target.{SentTold, noTarget, TargetTold}
@@ -26,9 +26,9 @@ module _ (f : Line) (whose : Controller) (messages : List MessageRow) (message-c
       let k : v .known ≡ false = ap (λ (x : Target). x .known) z in
       record {
         known = λ t am own. k ∙ sym (ap (λ (b : Bool). b && allMessages t (sentFields f)) (state-unknown t states state-count own whose (field f 5) r e q));
-        next = λ t am own b. absurd (never (v .known) k b);
-        sent = λ t am b. absurd (never (v .known) k b);
-        count = λ b. absurd (never (v .known) k b);
+        next = λ t am own b. absurd (not-both (v .known) k b);
+        sent = λ t am b. absurd (not-both (v .known) k b);
+        count = λ b. absurd (not-both (v .known) k b);
         cleared = λ b. z;
       }
 
@@ -38,9 +38,9 @@ module _ (f : Line) (whose : Controller) (messages : List MessageRow) (message-c
       let k : v .known ≡ false = ap (λ (x : Target). x .known) z in
       record {
         known = λ t am own. k ∙ sym (ap (λ (b : Bool). isState t whose (field f 5) && b) (sym (told .known t am) ∙ h) ∙ and-false (isState t whose (field f 5)));
-        next = λ t am own b. absurd (never (v .known) k b);
-        sent = λ t am b. absurd (never (v .known) k b);
-        count = λ b. absurd (never (v .known) k b);
+        next = λ t am own b. absurd (not-both (v .known) k b);
+        sent = λ t am b. absurd (not-both (v .known) k b);
+        count = λ b. absurd (not-both (v .known) k b);
         cleared = λ b. z;
       }
 
@@ -55,5 +55,5 @@ module _ (f : Line) (whose : Controller) (messages : List MessageRow) (message-c
         next = λ t am own b. state-known t states state-count own whose (field f 5) r (v .next) e p .1;
         sent = λ t am b. l ∙ told .sent t am h;
         count = λ b. n ∙ told .count h;
-        cleared = λ b. absurd (never (v .known) b k);
+        cleared = λ b. absurd (not-both (v .known) b k);
       }

@@ -113,7 +113,7 @@ pub lines-none : lines [] ≡ []
 unfolding lines split
 lines-none = refl
 
-front-more : {A : Type 0} (x : A) (l : List A) → 0 < length l → dropLast (x ∷ l) ≡ x ∷ dropLast l
+pub front-more : {A : Type 0} (x : A) (l : List A) → 0 < length l → dropLast (x ∷ l) ≡ x ∷ dropLast l
 front-more x [] h = absurd (omega arith)
 front-more x (y ∷ l) h = refl
 

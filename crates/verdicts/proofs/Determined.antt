@@ -1,25 +1,26 @@
 -- The contracts determine what the functions give back: two results that they allow are equal.
-use Prim.Native.Nat.{ℕ, _-_, _<_}
+use Prim.Native.Nat.{ℕ, _-_}
 use mathlib.Core.Path.{_≡_, refl, sym, ap, ap₂, _∙_}
 use mathlib.Core.Logic.{inl, inr}
-use mathlib.Core.List.{List, [], _∷_, _++_, map}
+use mathlib.Core.List.{List, [], _∷_, map, _++_}
 use native.Mathlib.Omega.{arith}
-use lib.ListN.{length, getD, take, drop, replicate, take-append-drop}
+use lib.ListN.{length, getD, take, replicate, take-append-drop}
 use lib.Seq.{ext-getD}
+use Rattle.determined.specs.Determined.{Determines}
+use Rattle.determined.proofs.Equal.{equal}
 use Rattle.rules.specs.declared.Message.{Message}
 use Rattle.rules.specs.declared.Network.{Network}
 use Rattle.rules.specs.Rules.{Relations}
 use Rattle.rules.proofs.Promises.{determined, one-class}
 use Rattle.tables.specs.declared.Tables.{Tables}
 use Rattle.tables.specs.Cells.{relationsOfTables, number as messageNumber}
-use Rattle.tables.specs.Determined.{Determines}
 use Rattle.plan_listing.specs.PlanText.{networkNumber, firstMessages, firstNetworks}
 use Rattle.verdicts.specs.declared.Planned.{Planned}
-use Rattle.verdicts.specs.Verdicts.{clearedMessage, clearedNetwork, MessagesPast, NetworksPast, PlanIs, ClassThree, ClassTwo}
+use Rattle.verdicts.specs.Verdicts.{clearedMessage, MessagesPast, NetworksPast, PlanIs, ClassThree, ClassTwo}
 use Rattle.verdicts.specs.Leaves.{asMessage, asNetwork}
 
 pub messages-of-determined : (bytes : List ℕ) → Determines (λ (r : List Message). r ≡ map asMessage bytes)
-messages-of-determined bytes r s p q = p ∙ sym q
+messages-of-determined bytes = equal _
 
 -- ---- arrays whose first numbers are told, and which are cleared past them
 

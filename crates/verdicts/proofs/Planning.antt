@@ -1,26 +1,25 @@
 -- The heights and the shown cycle of the rows of waits are a plan.
-use Prim.Native.Nat.{ℕ, suc, _<_, _≤_}
+use Prim.Native.Nat.{ℕ, _≤_}
 use mathlib.Core.Path.{_≡_, refl, sym, ap, subst, _∙_}
 use mathlib.Core.Logic.{_⊎_, inl, inr, _↔_}
 use mathlib.Core.List.{List, map}
 use native.Mathlib.Omega.{arith}
-use lib.ListN.{length, getD, take, drop, replicate}
+use lib.ListN.{length, getD, take, replicate}
 use lib.Seq.{getD-take, length-take-le}
 use Rattle.rules.specs.Rules.{Relations, Waits, WaitsCycle}
 use Rattle.rules.specs.Plan.{Height, Printed, LeastCount, LongestChain, PlanCycle}
 use Rattle.rules.specs.Promises.{Accepted, GoodPlan}
 use Rattle.rules.proofs.Same.{height-same, shown-same}
-use Rattle.rules.proofs.Least.{least-count}
+use Rattle.rules.proofs.Least.{least-count, longest-from}
 use Rattle.rules.proofs.Unique.{least-one}
 use Rattle.rules.proofs.Decided.{waits-within}
 use Rattle.rules.proofs.Promises.{every-plan, one-class}
 use Rattle.rows.specs.Rows.{Rows}
 use Rattle.walks.specs.Walks.{Heights, Cycle}
 use Rattle.rules.proofs.Decided.{plus-closed}
-use Rattle.tables.specs.declared.Tables.{Tables}
 use Rattle.tables.specs.Cells.{relationsOfTables}
 use Rattle.tables.proofs.InRange.{relations-accepted}
-use Rattle.plan_listing.specs.PlanText.{firstMessages, firstNetworks}
+use Rattle.plan_listing.specs.PlanText.{firstNetworks}
 use Rattle.verdicts.specs.declared.Planned.{Planned}
 use Rattle.verdicts.specs.Verdicts.{WaitsOf, ClassThree, ClassTwo}
 use Rattle.verdicts.specs.Leaves.{asMessage, asNetwork, classThree, classTwo, RowsPlan}
@@ -46,15 +45,7 @@ module _ (p : Relations) (acc : Accepted p) (few : p .count ≤ 32) (waits : Lis
     chain : LongestChain p count
     chain =
         let t = h .greatest g in
-        let top = printed (t .0) (t .1) in
-        record {
-          start = t .0;
-          message = t .1;
-          rest = top .rest;
-          chain = top .chain;
-          messages = ap suc (top .steps) ∙ t .2;
-          longest = λ m l hm c. omega (arith, printed m hm .longest l c, h .below g m hm);
-        }
+        longest-from p (λ m. getD bytes m 0) printed (t .0) (t .1) (λ y k. omega (arith, h .below g y k, t .2)) count (t .2)
 
     least : LeastCount p count
     least = least-count p (waits-within p acc) (λ m. getD bytes m 0) printed count chain

@@ -6,12 +6,11 @@ use native.Mathlib.Omega.{arith}
 use lib.ListN.{length, getD, take, drop, replicate}
 use lib.Seq.{length-take-le}
 use Rattle.rules.specs.declared.Message.{Message}
-use Rattle.rules.specs.declared.Network.{Network}
 use Rattle.rules.proofs.Cycle.{All<, closed-small}
 use Rattle.rows.specs.Rows.{Rows}
 use Rattle.walks.specs.Walks.{Cycle}
 use Rattle.plan_listing.specs.PlanText.{firstMessages, firstNetworks}
-use Rattle.verdicts.specs.Verdicts.{MessagesPast, NetworksPast}
+use Rattle.verdicts.specs.Verdicts.{MessagesPast}
 use Rattle.verdicts.specs.Leaves.{asMessage, asNetwork}
 
 -- ---- the first numbers

@@ -1,6 +1,6 @@
 -- One set advanced to the next: the numbers from which a step leads into it.
 use Prim.Native.Nat.{ℕ, zero, suc, _+_, _-_, _*_, _<_, _≤_, _/_, _%_, _^_}
-use mathlib.Core.Path.{_≡_, refl, sym, subst, ap, _∙_}
+use mathlib.Core.Path.{_≡_, subst, ap, _∙_}
 use mathlib.Core.Logic.{_⊎_, inl, inr, ⊎-elim, _↔_}
 use mathlib.Core.List.{List}
 use native.Mathlib.Nat.{one-mul, pow-suc, div-one}

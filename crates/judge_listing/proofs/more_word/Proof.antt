@@ -1,9 +1,8 @@
 -- `judge_listing::more_word` meets its contract.
-use mathlib.Core.Path.{refl, subst}
+use mathlib.Core.Path.{subst}
 use mathlib.Core.Bool.{Bool}
 use Prim.Native.Nat.{_+_, _≤_}
 use lib.ListN.{length}
-use Rattle.text.specs.Written.{Pasted}
 use Rattle.judge_listing.specs.JudgeText.{between, wordText, pickWord}
 use borrow.Author.Needs.{needs}
 use Rattle.judge_listing.proofs.more_word.Statement.{statement}

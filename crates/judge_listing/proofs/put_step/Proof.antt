@@ -2,11 +2,12 @@
 use mathlib.Core.List.{List, _++_}
 use Prim.Native.Nat.{ℕ, _≤_}
 use lib.ListN.{length}
+use Rattle.plan_listing.proofs.Growing.{front-room}
 use Rattle.text.specs.Name.{nameText}
 use Rattle.text.specs.Words.{stepWord, tab, newline}
 use Rattle.judge_listing.specs.JudgeText.{stepLine, between, wordText, pickWord}
 use Rattle.judge_listing.specs.Steps.{lineOf}
-use Rattle.judge_listing.proofs.Chains.{front-room, first-room, second-room, third-room, fourth-room, fifth-room, all-five}
+use Rattle.judge_listing.proofs.Chains.{first-room, second-room, third-room, fourth-room, fifth-room, all-five}
 use borrow.Author.Needs.{needs}
 use Rattle.judge_listing.proofs.put_step.Statement.{statement}
 use Rattle.judge_listing.proofs.put_step.Tie as tie

@@ -1,6 +1,6 @@
 -- `judge_listing::step_at` meets its contract.
 use mathlib.Core.Path.{_≡_, sym, subst}
-use Prim.Native.Nat.{ℕ, _≤_, _<_}
+use Prim.Native.Nat.{ℕ, _<_}
 use lib.ListN.{length, getD}
 use native.Mathlib.Omega.{arith}
 use Rattle.tables.specs.Cells.{number as messageNumber}

@@ -1,5 +1,4 @@
 -- `judge_listing::step_length` meets its contract.
-use mathlib.Core.Path.{_≡_}
 use Prim.Native.Nat.{_≤_}
 use lib.ListN.{length}
 use native.Mathlib.Omega.{arith}

@@ -1,6 +1,5 @@
 -- `judgement::judge_of` meets its contract.
 use mathlib.Core.Path.{refl}
-use borrow.Author.Needs.{needs}
 use Rattle.tables.specs.Cells.{relationsOfTables}
 use Rattle.verdicts.specs.Verdicts.{mappingOf, WaitsOf}
 use Rattle.verdicts.proofs.Waiting.{causes-tidy, stalls-tidy, waits-told}

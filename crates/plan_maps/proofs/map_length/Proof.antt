@@ -1,5 +1,5 @@
 -- `plan_maps::map_length` meets its contract.
-use mathlib.Core.Path.{_≡_, sym, _∙_}
+use mathlib.Core.Path.{sym, _∙_}
 use Prim.Native.Nat.{_≤_}
 use lib.ListN.{length, length-take, length-map}
 use native.Mathlib.Omega.{arith}

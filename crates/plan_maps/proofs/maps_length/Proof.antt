@@ -1,15 +1,11 @@
 -- `plan_maps::maps_length` meets its contract.
-use mathlib.Core.Path.{_≡_, sym, ap, _∙_}
-use mathlib.Core.List.{[]}
-use Prim.Native.Nat.{ℕ, _+_, _-_, _*_, _≤_}
+use mathlib.Core.Path.{_≡_, ap, _∙_}
+use Prim.Native.Nat.{ℕ, _-_, _*_, _≤_}
 use lib.ListN.{length}
 use native.Mathlib.Omega.{arith}
 use borrow.Author.Needs.{needs}
-use Rattle.text.specs.Name.{nameText}
-use Rattle.tables.specs.declared.MessageRow.{MessageRow}
-use Rattle.tables.specs.declared.Kind.the-variants.{Req}
 use Rattle.mapping.specs.Text.{mapTexts}
-use Rattle.plan_listing.specs.PlanText.{mapText, firstNetworks}
+use Rattle.plan_listing.specs.PlanText.{firstNetworks}
 use Rattle.plan_listing.specs.Lengths.{TextLength}
 use Rattle.plan_listing.proofs.Lines.{mapsTo, maps-longer}
 use Rattle.plan_maps.proofs.maps_length.Statement.{statement}

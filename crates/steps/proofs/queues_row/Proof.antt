@@ -1,7 +1,6 @@
 -- `steps::queues_row` meets its contract.
 use Prim.Native.Nat.{_-_, _≤_, _<_, _^_}
 use native.Mathlib.Omega.{arith}
-use borrow.Author.Needs.{needs}
 use Rattle.steps.specs.Steps.{mappingOf}
 use Rattle.steps.proofs.Queueing.{Queueing, queueing-none, queueing-more, queueing-all}
 use Rattle.steps.proofs.queues_row.Statement.{statement}

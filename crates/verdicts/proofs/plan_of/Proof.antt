@@ -1,6 +1,5 @@
 -- `verdicts::plan_of` meets its contract.
 use mathlib.Core.Path.{refl}
-use borrow.Author.Needs.{needs}
 use Rattle.verdicts.proofs.Waiting.{causes-tidy, stalls-tidy, waits-told}
 use Rattle.verdicts.proofs.plan_of.Statement.{statement}
 use Rattle.verdicts.proofs.plan_of.Tie as tie
