@@ -104,13 +104,13 @@ pub fn check_protocol_packed(text: &[u8]) -> u64 {
 
 /// Where the calls stand, for who measures their stack.
 pub fn check_address() -> usize {
-    vn_check_protocol as usize
+    vn_check_protocol as *const () as usize
 }
 
 pub fn plan_address() -> usize {
-    vn_plan_text as usize
+    vn_plan_text as *const () as usize
 }
 
 pub fn judge_address() -> usize {
-    vn_judge_texts as usize
+    vn_judge_texts as *const () as usize
 }

@@ -1,0 +1,213 @@
+//! The two readers.
+
+use super::*;
+
+// ---------------------------------------------------------------------
+// The protocol reader (refusals 1 to 13)
+// ---------------------------------------------------------------------
+
+pub fn read_protocol(text: &[u8]) -> Result<Protocol, Refusal> {
+    let lines = lines_after_header(text, b"vn-protocol\t1", PROTOCOL_PAPER)?;
+    let mut protocol = Protocol::empty();
+    for (place, content) in lines.iter().enumerate() {
+        // The header is line 1.
+        let line = place + 2;
+        if let Err(number) = read_line(&mut protocol, content, line) {
+            return Err(refusal(number, PROTOCOL_PAPER, line));
+        }
+    }
+    if protocol.messages.is_empty() {
+        return Err(refusal(NO_MESSAGE, PROTOCOL_PAPER, 0));
+    }
+    if let Some(line) = first_line_without_entry(&protocol) {
+        return Err(refusal(NO_ENTRY, PROTOCOL_PAPER, line));
+    }
+    Ok(protocol)
+}
+
+/// Reads one line, or gives the smallest refusal number that applies to it:
+/// the checks below and in the four functions stand in rising order.
+pub(super) fn read_line(protocol: &mut Protocol, content: &[u8], line: usize) -> Result<(), u64> {
+    let fields = split_fields(content);
+    let record = match read_record(&fields) {
+        Some(record) => record,
+        None => return Err(SHAPE),
+    };
+    let section = section_of(&record);
+    if section < protocol.section {
+        return Err(ORDER);
+    }
+    protocol.section = section;
+    match record {
+        Record::Message { name, message_type } => add_message(protocol, name, message_type),
+        Record::Event { name } => add_event(protocol, name),
+        Record::State { controller, name, kind } => add_state(protocol, controller, name, kind),
+        Record::Cell(raw) => add_cell(protocol, &raw, line),
+    }
+}
+
+pub(super) fn section_of(record: &Record) -> Section {
+    match record {
+        Record::Message { .. } => Section::Messages,
+        Record::Event { .. } => Section::Events,
+        Record::State { .. } => Section::States,
+        Record::Cell(_) => Section::Cells,
+    }
+}
+
+/// "Messages and events share one name space"
+pub(super) fn is_message_or_event(protocol: &Protocol, name: &[u8]) -> bool {
+    protocol.find_message(name).is_some() || protocol.find_event(name).is_some()
+}
+
+pub(super) fn add_message(protocol: &mut Protocol, name: &[u8], message_type: MessageType) -> Result<(), u64> {
+    if !is_name(name) {
+        return Err(NAME);
+    }
+    if is_message_or_event(protocol, name) {
+        return Err(TWICE);
+    }
+    if protocol.messages.len() == MOST_MESSAGES {
+        return Err(FULL);
+    }
+    protocol.messages.push(MessageRow { name: name.to_vec(), message_type });
+    Ok(())
+}
+
+pub(super) fn add_event(protocol: &mut Protocol, name: &[u8]) -> Result<(), u64> {
+    if !is_name(name) {
+        return Err(NAME);
+    }
+    if is_message_or_event(protocol, name) {
+        return Err(TWICE);
+    }
+    if protocol.events.len() == MOST_EVENTS {
+        return Err(FULL);
+    }
+    protocol.events.push(name.to_vec());
+    Ok(())
+}
+
+pub(super) fn add_state(
+    protocol: &mut Protocol,
+    controller: Controller,
+    name: &[u8],
+    kind: Kind,
+) -> Result<(), u64> {
+    if !is_name(name) {
+        return Err(NAME);
+    }
+    if protocol.find_state(controller, name).is_some() {
+        return Err(TWICE);
+    }
+    if protocol.states.len() == MOST_STATES {
+        return Err(FULL);
+    }
+    protocol.states.push(StateRow { controller, name: name.to_vec(), kind });
+    Ok(())
+}
+
+pub(super) fn add_cell(protocol: &mut Protocol, raw: &RawCell, line: usize) -> Result<(), u64> {
+    let cell = match look_up_cell(protocol, raw, line) {
+        Some(cell) => cell,
+        None => return Err(UNKNOWN),
+    };
+    if protocol.cells.len() == MOST_CELLS {
+        return Err(FULL);
+    }
+    if cell.outcome == Outcome::Stall && protocol.kind_of(cell.state) == Kind::Stable {
+        return Err(STALL_STABLE);
+    }
+    if protocol.cells.iter().any(|earlier| conflict(earlier, &cell)) {
+        return Err(CONFLICT);
+    }
+    protocol.cells.push(cell);
+    Ok(())
+}
+
+/// Nothing when a name is "not declared, or not allowed there" (refusal 7).
+pub(super) fn look_up_cell(protocol: &Protocol, raw: &RawCell, line: usize) -> Option<Cell> {
+    let controller = raw.controller;
+    let state = protocol.find_state(controller, raw.state)?;
+    let trigger = protocol.find_trigger(controller, raw.trigger)?;
+    let outcome = match &raw.outcome {
+        RawOutcome::Stall => Outcome::Stall,
+        RawOutcome::Go { next, sent } => {
+            let next = protocol.find_state(controller, next)?;
+            let mut sent_messages = Vec::new();
+            for name in sent {
+                sent_messages.push(protocol.find_message(name)?);
+            }
+            Outcome::Go { next, sent: sent_messages }
+        }
+    };
+    Some(Cell { line, controller, state, trigger, outcome })
+}
+
+/// "the same controller, state and trigger, and at least one of the two is
+/// `stall`" (refusal 11)
+pub(super) fn conflict(earlier: &Cell, later: &Cell) -> bool {
+    let same_place = earlier.controller == later.controller
+        && earlier.state == later.state
+        && earlier.trigger == later.trigger;
+    same_place && (earlier.outcome == Outcome::Stall || later.outcome == Outcome::Stall)
+}
+
+/// "a stalled message in a state whose entries have no carrier; that cell's
+/// line, the first such" (refusal 13). A state without entries counts too.
+pub(super) fn first_line_without_entry(protocol: &Protocol) -> Option<usize> {
+    for cell in &protocol.cells {
+        if stalled_message(cell).is_some() && carriers_into(protocol, cell.state).is_empty() {
+            return Some(cell.line);
+        }
+    }
+    None
+}
+
+// ---------------------------------------------------------------------
+// The mapping reader (refusals 1 to 4, 14, 15)
+// ---------------------------------------------------------------------
+
+/// The network of each message, in message order.
+pub fn read_mapping(text: &[u8], names: &[Vec<u8>]) -> Result<Vec<Network>, Refusal> {
+    let lines = lines_after_header(text, b"vn-mapping\t1", MAPPING_PAPER)?;
+    let mut mapping = Vec::new();
+    for (place, content) in lines.iter().enumerate() {
+        match read_map_line(content, names.get(mapping.len())) {
+            Ok(network) => mapping.push(network),
+            Err(number) => return Err(refusal(number, MAPPING_PAPER, place + 2)),
+        }
+    }
+    if mapping.len() < names.len() {
+        // "or the text ends early: last line + 1"
+        let last_line = lines.len() + 1;
+        return Err(refusal(UNMATCHED, MAPPING_PAPER, last_line + 1));
+    }
+    Ok(mapping)
+}
+
+/// One line `map` name network. `due` is the next message's name, if any.
+pub(super) fn read_map_line(content: &[u8], due: Option<&Vec<u8>>) -> Result<Network, u64> {
+    let fields = split_fields(content);
+    if fields[0] != b"map" || fields.len() != 3 {
+        return Err(SHAPE);
+    }
+    match due {
+        Some(name) if name.as_slice() == fields[1] => {}
+        _ => return Err(UNMATCHED),
+    }
+    match read_network(fields[2]) {
+        Some(network) => Ok(network),
+        None => Err(NETWORK),
+    }
+}
+
+/// "Network is decimal, 0 to 31, no leading zero."
+pub(super) fn read_network(field: &[u8]) -> Option<Network> {
+    for number in 0..=HIGHEST_NETWORK {
+        if decimal(number) == field {
+            return Some(Network(number));
+        }
+    }
+    None
+}
