@@ -1,4 +1,4 @@
-//! A safe wrapper around the calls that the library exports.
+//! A safe wrapper around the relations call.
 //!
 //! Slices are all that the library asks for, so nothing is left to the
 //! caller: `relations` takes any count, any tables and any output.

@@ -82,7 +82,8 @@ uint64_t vn_relations(uint64_t n,
                       const uint8_t *stalls, size_t stalls_length,
                       uint8_t *out, size_t out_length);
 
-/* Bits 0 to 7: VN_ACCEPTED, VN_COUNT, VN_STRAY or VN_ROOM. */
+/* Bits 0 to 7, of every call: VN_ACCEPTED, or the refusal; of vn_relations
+ * VN_COUNT, VN_STRAY or VN_ROOM. */
 static inline unsigned vn_refusal(uint64_t answer) { return (unsigned)(answer & 0xff); }
 
 /* Bits 8 to 15: how many bytes of the output were written. */
@@ -111,7 +112,7 @@ static inline void vn_set_pair(uint8_t *table, unsigned from, unsigned to)
     table[VN_ROW_BYTES * from + to / 8] |= (uint8_t)(1u << to % 8);
 }
 
-/* ---- Plans and judgements of texts: link with -ljudge ---- */
+/* ---- Plans and judgements of texts: link with -lplan and -ljudge ---- */
 
 /* The most bytes of a text. */
 #define VN_MOST_BYTES 49152
@@ -217,7 +218,8 @@ static inline size_t vn_listing_needed(uint64_t answer)
  */
 uint64_t vn_check_protocol(const uint8_t *text, size_t text_length);
 
-/* Bits 16 to 31: the line that a refusal tells; of the calls above too. */
+/* Bits 16 to 31: the line that a refusal tells; of vn_plan_text and
+ * vn_judge_texts too. */
 static inline unsigned vn_line(uint64_t answer) { return (unsigned)(answer >> 16 & 0xffff); }
 
 #ifdef __cplusplus

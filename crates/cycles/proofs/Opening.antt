@@ -8,8 +8,7 @@ use native.Mathlib.Omega.{arith}
 use native.Mathlib.Numerals.{add-one}
 use lib.ListN.{getD}
 use lib.Bits.{bitAnd}
-use Rattle.rules.specs.Walks.{Rel}
-use Rattle.rules.proofs.Picked.{Exactly}
+use Rattle.rules.specs.Walks.{Rel, Exactly}
 use Rattle.rows.specs.Rows.{Bit, Rows}
 use Rattle.rows.proofs.Bits.{bit-zero, bit-and, bit-test}
 use Rattle.walks.specs.Sets.{Below, After, Goes, Opens, Shortest}

@@ -6,8 +6,9 @@ use mathlib.Core.List.{List, [], _∷_}
 use native.Mathlib.Decide.{ℕ-discrete, decLt}
 use native.Mathlib.Omega.{arith}
 use lib.ListN.{length, getD}
+use Rattle.rules.specs.Walks.{Exactly}
 use Rattle.rules.specs.Plan.{Closed, Shown}
-use Rattle.rules.proofs.Picked.{Exactly, chain-exactly}
+use Rattle.rules.proofs.Picked.{chain-exactly}
 use Rattle.rules.proofs.Cycle.{shown?}
 use Rattle.rows.specs.Rows.{Rows}
 use Rattle.rows.proofs.Given.{rows?}

@@ -1,4 +1,4 @@
-// Refusal 13, NO-ENTRY: the first stalled message whose cell stands in a state that no message carries to.
+// Refusal 13, NO_ENTRY: the first stalled message whose cell stands in a state that no message carries to.
 ghost use mathlib.Core.Path.{_≡_};
 ghost use mathlib.Core.Logic.{_↔_};
 ghost use mathlib.Core.Bool.{true};

@@ -14,9 +14,9 @@ use Rattle.rules.specs.declared.Network.{Network}
 use Rattle.text.specs.Parts.{split, lines}
 use Rattle.text.specs.Words.{mappingHeader}
 use Rattle.papers.specs.declared.Refusal.{Refusal}
-use Rattle.papers.specs.Checks.{check, refusal, firstOf}
+use Rattle.papers.specs.Checks.{check, refusal, firstOf, ToldBy, row}
 use Rattle.papers.specs.Opening.{openingChecks, openingOf}
-use Rattle.papers.proofs.Checks.{ToldBy, row, only-given, passed-by}
+use Rattle.papers.proofs.Checks.{only-given, passed-by}
 use Rattle.tables.specs.declared.MessageRow.{MessageRow}
 use Rattle.tables.proofs.AllCells.{getD-zeros}
 use Rattle.mapping.specs.declared.Mapped.{Mapped}
@@ -24,7 +24,7 @@ use Rattle.maplines.specs.Line.{field, shaped, matches, isNetwork, lineChecks, 
 use Rattle.networks.specs.Networks.{networkOf}
 use Rattle.mapping.specs.Reading.{networkNo, accepted, refused, readMaps, readMapping}
 use Rattle.maplines.specs.Line.{restChecks}
-use Rattle.mapping_laws.specs.Why.{Passed, BadLine, EndsEarly, Accepted}
+use Rattle.mapping_laws.specs.Why.{Passed, BadLine, EndsEarly, Accepted, BadOpening, Opened, LinesAnswered, MappingAnswered, MappingAccepted, BadTold}
 use Rattle.mapping.proofs.ReadLaws.{maps-more, maps-stop, reading-refused, reading-opened}
 
 -- ---- a line that gives no refusal
@@ -100,10 +100,15 @@ module _ (next : List MessageRow) (k : ℕ) (l : List ℕ) (ls : List (List ℕ)
             long = omega (arith, a .long);
             ns = networkOf (field (split 9 l) 2) ∷ a .ns;
             count = omega (arith, a .count);
+            gives = given;
             below = at;
             is = on ∙ a .is ∙ ap accepted (append-assoc ns (networkOf (field (split 9 l) 2) ∷ []) (a .ns));
           }
         where
+          given : (i : ℕ) → i < suc (length (a .ns)) → getD (networkOf (field (split 9 l) 2) ∷ a .ns) i 0 ≡ networkOf (field (split 9 (getD (l ∷ ls) i [])) 2)
+          given zero h = refl
+          given (suc i) h = a .gives i (omega arith)
+
           at : (i : ℕ) → i < suc (length (a .ns)) → getD (networkOf (field (split 9 l) 2) ∷ a .ns) i 0 < 32
           at zero h = line-network next k (split 9 l) e
           at (suc i) h = a .below i (omega arith)
@@ -117,6 +122,7 @@ answered [] [] k ns =
       long = refl;
       ns = [];
       count = refl;
+      gives = λ i h. absurd (omega arith);
       below = λ i h. absurd (omega arith);
       is = ap accepted (sym (append-nil ns));
     })
@@ -150,53 +156,41 @@ answered (l ∷ ls) next k ns =
 
 -- ---- the whole text
 
--- Refused before its lines are read, under the first of the three rows that is given.
-pub record BadOpening (text : List ℕ) (r : Mapped) : Type 0 where
-  pub told : ToldBy (openingChecks mappingHeader text) (openingOf mappingHeader text)
-  pub is : r ≡ refused (openingOf mappingHeader text)
+-- every answer is under its row
+pub mapping-answered : MappingAnswered
+unfolding openingOf
+mapping-answered messages text = go (eqb (openingOf mappingHeader text .number) 0) refl
+  where
+    go : (t : Bool) → eqb (openingOf mappingHeader text .number) 0 ≡ t
+        → BadOpening text (readMapping messages text) ⊎ (Opened text × LinesAnswered messages text (readMapping messages text))
+    go true e =
+        let z = eqb-true (openingOf mappingHeader text .number) 0 e in
+        inr (z, subst (LinesAnswered messages text) (sym (reading-opened messages text z)) (answered (drop 1 (lines text)) messages 2 []))
+    go false e =
+        let z = eqb-false (openingOf mappingHeader text .number) 0 e in
+        inl (record { told = only-given (openingChecks mappingHeader text) (openingOf mappingHeader text .number) refl z; is = reading-refused messages text z })
 
-module _ (messages : List MessageRow) (text : List ℕ) where
-  -- every answer is under its row
-  pub mapping-answered :
-      BadOpening text (readMapping messages text)
-      ⊎ (Accepted messages 2 (drop 1 (lines text)) [] (readMapping messages text)
-      ⊎ (BadLine messages 2 (drop 1 (lines text)) (readMapping messages text) ⊎ EndsEarly messages 2 (drop 1 (lines text)) (readMapping messages text)))
-  unfolding openingOf
-  mapping-answered = go (eqb (openingOf mappingHeader text .number) 0) refl
-    where
-      go : (t : Bool) → eqb (openingOf mappingHeader text .number) 0 ≡ t
-          → BadOpening text (readMapping messages text)
-          ⊎ (Accepted messages 2 (drop 1 (lines text)) [] (readMapping messages text)
-          ⊎ (BadLine messages 2 (drop 1 (lines text)) (readMapping messages text) ⊎ EndsEarly messages 2 (drop 1 (lines text)) (readMapping messages text)))
-      go true e =
-          inr (subst (λ (r : Mapped). Accepted messages 2 (drop 1 (lines text)) [] r ⊎ (BadLine messages 2 (drop 1 (lines text)) r ⊎ EndsEarly messages 2 (drop 1 (lines text)) r))
-          (sym (reading-opened messages text (eqb-true (openingOf mappingHeader text .number) 0 e))) (answered (drop 1 (lines text)) messages 2 []))
-      go false e =
-          let z = eqb-false (openingOf mappingHeader text .number) 0 e in
-          inl (record { told = only-given (openingChecks mappingHeader text) (openingOf mappingHeader text .number) refl z; is = reading-refused messages text z })
+-- a mapping that is not refused gives each message a network
+pub mapping-accepted : MappingAccepted
+mapping-accepted messages text h =
+    ⊎-elim (λ (w : BadOpening text (readMapping messages text)). absurd (open-number (openingOf mappingHeader text) (w .told) (sym (ap (λ (r : Mapped). r .number) (w .is)) ∙ h)))
+    (λ (v : Opened text × LinesAnswered messages text (readMapping messages text)).
+    ⊎-elim (λ (w : Accepted messages 2 (drop 1 (lines text)) [] (readMapping messages text)). w)
+    (⊎-elim (λ (w : BadLine messages 2 (drop 1 (lines text)) (readMapping messages text)). absurd (w .bad (sym (ap (λ (r : Mapped). r .number) (w .is)) ∙ h)))
+    (λ (w : EndsEarly messages 2 (drop 1 (lines text)) (readMapping messages text)). absurd (omega (arith, ap (λ (r : Mapped). r .number) (w .is))))) (v .1))
+    (mapping-answered messages text)
+  where
+    rows : (i : ℕ) → i < 3 → row (openingChecks mappingHeader text) i .number ≡ 0 → ⊥
+    rows zero k q = omega arith
+    rows (suc zero) k q = omega arith
+    rows (suc (suc zero)) k q = omega arith
+    rows (suc (suc (suc i))) k q = omega arith
 
-  -- a mapping that is not refused gives each message a network
-  pub mapping-accepted : readMapping messages text .number ≡ 0 → Accepted messages 2 (drop 1 (lines text)) [] (readMapping messages text)
-  mapping-accepted h =
-      ⊎-elim (λ (w : BadOpening text (readMapping messages text)). absurd (open-number (openingOf mappingHeader text) (w .told) (sym (ap (λ (r : Mapped). r .number) (w .is)) ∙ h)))
-      (⊎-elim (λ (w : Accepted messages 2 (drop 1 (lines text)) [] (readMapping messages text)). w)
-      (⊎-elim (λ (w : BadLine messages 2 (drop 1 (lines text)) (readMapping messages text)). absurd (w .bad (sym (ap (λ (r : Mapped). r .number) (w .is)) ∙ h)))
-      (λ (w : EndsEarly messages 2 (drop 1 (lines text)) (readMapping messages text)). absurd (omega (arith, ap (λ (r : Mapped). r .number) (w .is))))))
-      mapping-answered
-    where
-      rows : (i : ℕ) → i < 3 → row (openingChecks mappingHeader text) i .number ≡ 0 → ⊥
-      rows zero k q = omega arith
-      rows (suc zero) k q = omega arith
-      rows (suc (suc zero)) k q = omega arith
-      rows (suc (suc (suc i))) k q = omega arith
-
-      open-number : (r : Refusal) → ToldBy (openingChecks mappingHeader text) r → r .number ≡ 0 → ⊥
-      open-number r t q = rows (t .place) (t .first .below) (sym (ap (λ (s : Refusal). s .number) (t .is)) ∙ q)
+    open-number : (r : Refusal) → ToldBy (openingChecks mappingHeader text) r → r .number ≡ 0 → ⊥
+    open-number r t q = rows (t .place) (t .first .below) (sym (ap (λ (s : Refusal). s .number) (t .is)) ∙ q)
 
 -- the row of a bad line
-pub bad-told : (next : List MessageRow) (k : ℕ) (ls : List (List ℕ)) (r : Mapped) (w : BadLine next k ls r)
-    → ToldBy (lineChecks (drop (w .place) next) (k + w .place) (split 9 (getD ls (w .place) [])))
-    (lineRefusal (drop (w .place) next) (k + w .place) (split 9 (getD ls (w .place) [])))
+pub bad-told : BadTold
 unfolding lineRefusal
 bad-told next k ls r w =
     let cs = lineChecks (drop (w .place) next) (k + w .place) (split 9 (getD ls (w .place) [])) in

@@ -5,21 +5,9 @@ use mathlib.Core.List.{List, [], _∷_}
 use mathlib.Core.Logic.{_⊎_, inl, inr, ⊎-elim}
 use Prim.Native.Nat.{ℕ, zero, suc, _<_}
 use native.Mathlib.Omega.{arith}
-use lib.ListN.{length, getD}
+use lib.ListN.{length}
 use Rattle.papers.specs.declared.Refusal.{Refusal}
-use Rattle.papers.specs.Checks.{Check, check, refusal, none, pickRefusal, firstOf}
-
--- What stands past the end of a list of checks.
-abbrev pub noCheck : Check
-noCheck = check 0 0 false
-
--- The check at a place.
-abbrev pub row : List Check → ℕ → Check
-row cs i = getD cs i noCheck
-
--- What a check says where it is given.
-abbrev pub told : Check → Refusal
-told c = refusal (c .number) (c .line)
+use Rattle.papers.specs.Checks.{Check, none, pickRefusal, firstOf, row, told, FirstGiven, ToldBy, NoneGiven}
 
 module _ (c : Check) (cs : List Check) where
   -- the first check is given
@@ -31,22 +19,6 @@ module _ (c : Check) (cs : List Check) where
   pub first-passed : c .given ≡ false → firstOf (c ∷ cs) ≡ firstOf cs
   unfolding firstOf
   first-passed e = ap (λ (t : Bool). pickRefusal t (told c) (firstOf cs)) e
-
--- The check at a place is given, and none before it.
-pub record FirstGiven (cs : List Check) (i : ℕ) : Type 0 where
-  pub below : i < length cs
-  pub given : row cs i .given ≡ true
-  pub before : (j : ℕ) → j < i → row cs j .given ≡ false
-
--- The refusal is that of the first given check.
-pub record ToldBy (cs : List Check) (r : Refusal) : Type 0 where
-  pub place : ℕ
-  pub first : FirstGiven cs place
-  pub is : r ≡ told (row cs place)
-
--- No check is given.
-pub record NoneGiven (cs : List Check) : Type 0 where
-  pub passed : (j : ℕ) → j < length cs → row cs j .given ≡ false
 
 none-more : (c : Check) (cs : List Check) → c .given ≡ false → NoneGiven cs → NoneGiven (c ∷ cs)
 none-more c cs e h = record { passed = at }

@@ -12,9 +12,9 @@ use borrow.Author.Tests.{eqb-true, eqb-false, not-true, ltb-true}
 use Rattle.text.specs.Parts.{split, lines}
 use Rattle.text.specs.Words.{protocolHeader}
 use Rattle.papers.specs.declared.Refusal.{Refusal}
-use Rattle.papers.specs.Checks.{Check}
+use Rattle.papers.specs.Checks.{Check, ToldBy, told, row}
 use Rattle.papers.specs.Opening.{openingChecks, openingOf}
-use Rattle.papers.proofs.Checks.{ToldBy, told, row, only-given}
+use Rattle.papers.proofs.Checks.{only-given}
 use Rattle.tables.specs.declared.Tables.{Tables}
 use Rattle.tables.specs.Tables.{clearedTables}
 use Rattle.records.specs.Line.{Line, sectionOf}
@@ -23,7 +23,7 @@ use Rattle.whole.specs.declared.Reading.{Reading}
 use Rattle.whole.specs.Whole.{refused, accepted, noEntryAt, wholeChecks, wholeRefusal}
 use Rattle.sections.specs.Lines.{stored, readLines}
 use Rattle.protocol.specs.Reading.{readProtocol}
-use Rattle.protocol_laws.specs.Promises.{after, fieldsAt, refusalAt, Unrefused, BadOpening, BadLine, BadWhole, AllRead, LinesAnswered, linesOf, EveryAnswer, atEnd, Unbroken, Comes, Why, OnlyUnderItsRow, RefusedCleared, too-big, no-end, header, shape, order, name, not-declared, declared-twice, too-many, stall-stable, clashes, no-message, no-entry}
+use Rattle.protocol_laws.specs.Promises.{after, fieldsAt, refusalAt, Unrefused, BadOpening, BadLine, BadWhole, AllRead, LinesAnswered, linesOf, EveryAnswer, atEnd, Unbroken, Comes, Why, OnlyUnderItsRow, RefusedCleared, too-big, no-end, header, shape, order, name, not-declared, declared-twice, too-many, stall-stable, clashes, no-message, no-entry, Opened}
 use Rattle.whole.specs.Kept.{Kept}
 use Rattle.sections.proofs.Kept.{kept-cleared}
 use Rattle.protocol_laws.proofs.KeptLines.{kept-after}
@@ -135,13 +135,20 @@ pub every-answer : EveryAnswer
 unfolding openingOf
 every-answer text = go (eqb (openingOf protocolHeader text .number) 0) refl
   where
-    go : (b : Bool) → eqb (openingOf protocolHeader text .number) 0 ≡ b → BadOpening text (readProtocol text) ⊎ LinesAnswered clearedTables 2 (linesOf text) (readProtocol text)
+    go : (b : Bool) → eqb (openingOf protocolHeader text .number) 0 ≡ b
+        → BadOpening text (readProtocol text) ⊎ (Opened text × LinesAnswered clearedTables 2 (linesOf text) (readProtocol text))
     go true e =
-        inr (subst (LinesAnswered clearedTables 2 (linesOf text)) (sym (reading-opened text (eqb-true (openingOf protocolHeader text .number) 0 e)))
-        (lines-answered (linesOf text) clearedTables 2))
+        let z = eqb-true (openingOf protocolHeader text .number) 0 e in
+        inr (z, subst (LinesAnswered clearedTables 2 (linesOf text)) (sym (reading-opened text z)) (lines-answered (linesOf text) clearedTables 2))
     go false e =
         let z = eqb-false (openingOf protocolHeader text .number) 0 e in
         inl (record { told = only-given (openingChecks protocolHeader text) (openingOf protocolHeader text .number) refl z; is = reading-refused text z })
+
+-- the answer, whatever came before
+answer : (text : List ℕ) → BadOpening text (readProtocol text) ⊎ LinesAnswered clearedTables 2 (linesOf text) (readProtocol text)
+answer text =
+    ⊎-elim (λ (w : BadOpening text (readProtocol text)). inl w)
+    (λ (w : Opened text × LinesAnswered clearedTables 2 (linesOf text) (readProtocol text)). inr (w .1)) (every-answer text)
 
 -- the tables at the end are in order
 pub kept-end : (text : List ℕ) → Unbroken text (length (linesOf text)) → Kept (atEnd text)
@@ -198,7 +205,7 @@ only-under-its-row text z =
     (λ (w : BadWhole clearedTables 2 (linesOf text) a).
     answer-told text (wholeRefusal (atEnd text)) a (w .is)
     (subst (Told text) (sym (w .told .is)) (why-whole text (w .told .place) (w .before) (w .told .first .below) (w .told .first .given))))))
-    (every-answer text)
+    (answer text)
 
 pub refused-cleared : RefusedCleared
 refused-cleared text z =
@@ -207,7 +214,7 @@ refused-cleared text z =
     (⊎-elim (λ (w : AllRead clearedTables 2 (linesOf text) a). absurd (z (ap (λ (r : Reading). r .number) (w .is))))
     (⊎-elim (λ (w : BadLine clearedTables 2 (linesOf text) a). ap (λ (r : Reading). r .tables) (w .is))
     (λ (w : BadWhole clearedTables 2 (linesOf text) a). ap (λ (r : Reading). r .tables) (w .is))))
-    (every-answer text)
+    (answer text)
 
 -- ---- every row has a number
 
@@ -252,4 +259,4 @@ all-read text z =
     (sym (ap (λ (r : Reading). r .number) (w .is)) ∙ z)))
     (λ (w : BadWhole clearedTables 2 (linesOf text) a).
     absurd (numbered (wholeChecks (atEnd text)) (wholeRefusal (atEnd text)) (whole-rows (atEnd text)) (w .told) (sym (ap (λ (r : Reading). r .number) (w .is)) ∙ z)))))
-    (every-answer text)
+    (answer text)

@@ -7,8 +7,8 @@ use native.Mathlib.Omega.{arith}
 use lib.ListN.{length}
 use borrow.Author.Tests.{not-true}
 use Rattle.papers.specs.declared.Refusal.{Refusal}
-use Rattle.papers.specs.Checks.{Check, firstOf}
-use Rattle.papers.proofs.Checks.{row, FirstGiven, only-given}
+use Rattle.papers.specs.Checks.{Check, firstOf, row, FirstGiven}
+use Rattle.papers.proofs.Checks.{only-given}
 use Rattle.tables.specs.declared.Tables.{Tables}
 use Rattle.records.specs.Line.{Line, Section, sectionOf}
 use Rattle.records.specs.Checks.{shaped, laterRead, badName, notKnown, twice, full, stallInStable, conflict, sectionChecks, lineChecks, lineRefusal}

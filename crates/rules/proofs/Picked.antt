@@ -9,7 +9,7 @@ use native.Mathlib.Omega.{arith}
 use lib.ListN.{length, getD, take, length-append, List·getD-append}
 use lib.Seq.{getD-take}
 use Rattle.rules.specs.Lists.{_≼_}
-use Rattle.rules.specs.Walks.{Rel, Chain, Begins}
+use Rattle.rules.specs.Walks.{Rel, Chain, Begins, Exactly}
 use Rattle.rules.specs.Plan.{Closed, Shown}
 
 -- ---- chains and dictionary order by index
@@ -34,10 +34,6 @@ dictionary-at (a ∷ l) (b ∷ m) e f = go (dictionary-at l m (omega arith)) (�
     go ih (no d) = inl (omega (arith, f 0 (omega arith) refl))
 
 -- ---- exactly k steps: what a search for the shortest cycle keeps a row of for each k
-
-abbrev pub Exactly : Rel → ℕ → ℕ → ℕ → Type 0
-Exactly R zero y x = y ≡ x
-Exactly R (suc k) y x = (z : ℕ) × R y z × Exactly R k z x
 
 pub chain-exactly : (R : Rel) (a x : ℕ) (l : List ℕ) → Chain R a (l ++ x ∷ []) → Exactly R (suc (length l)) a x
 chain-exactly R a x [] c = (x, c .0, refl)

@@ -1,7 +1,8 @@
 -- Steps of a relation, one after the other: chains and closed walks.
-use Prim.Native.Nat.{ℕ}
+use Prim.Native.Nat.{ℕ, zero, suc}
 use mathlib.Core.Logic.{_⊎_}
 use mathlib.Core.List.{List, [], _∷_, _++_}
+use mathlib.Core.Path.{_≡_}
 
 -- A relation between numbers: `R a b` is the fact that a is in the relation R to b.
 abbrev pub Rel : Type 1
@@ -26,3 +27,8 @@ Somewhere R a (b ∷ l) = R a b ⊎ Somewhere R b l
 abbrev pub Begins : Rel → ℕ → List ℕ → Type 0
 Begins R a [] = ⊥
 Begins R a (b ∷ l) = R a b
+
+-- From y to x by exactly k steps of R.
+abbrev pub Exactly : Rel → ℕ → ℕ → ℕ → Type 0
+Exactly R zero y x = y ≡ x
+Exactly R (suc k) y x = (z : ℕ) × R y z × Exactly R k z x

@@ -8,7 +8,7 @@ use native.Mathlib.Omega.{arith}
 use native.Mathlib.Numerals.{add-one}
 use lib.ListN.{length, getD, set, length-set}
 use lib.Seq.{getD-set-same, getD-set-other}
-use Rattle.rules.proofs.Picked.{Exactly}
+use Rattle.rules.specs.Walks.{Exactly}
 use Rattle.rows.specs.Rows.{Bit, Rows}
 use Rattle.walks.specs.Sets.{Into, Layers}
 

@@ -10,9 +10,9 @@ use lib.ListN.{length, getD, set, take, drop, length-set}
 use lib.Seq.{getD-set-same, getD-set-other, getD-take, length-take-le, drop-set-lt}
 use lib.Count.{trailingZeros}
 use lib.Bits.{bitAnd, and-le-l}
-use Rattle.rules.specs.Walks.{Rel}
+use Rattle.rules.specs.Walks.{Rel, Exactly}
 use Rattle.rules.specs.Plan.{Shown}
-use Rattle.rules.proofs.Picked.{Exactly, StepAt, picked-shown}
+use Rattle.rules.proofs.Picked.{StepAt, picked-shown}
 use Rattle.rows.specs.Rows.{Bit, Rows}
 use Rattle.rows.proofs.Bits.{bit-and, lowest, meet-no}
 use Rattle.walks.specs.Walks.{Within}

@@ -4,9 +4,8 @@ use mathlib.Core.Path.{_≡_}
 use mathlib.Core.Logic.{_↔_}
 use mathlib.Core.List.{List}
 use lib.ListN.{length, getD, take, drop}
-use Rattle.rules.specs.Walks.{Rel, Plus}
+use Rattle.rules.specs.Walks.{Rel, Plus, Exactly}
 use Rattle.rules.specs.Plan.{Closed, Shown}
-use Rattle.rules.proofs.Picked.{Exactly}
 use Rattle.rows.specs.Rows.{Bit, Rows}
 
 -- The bits of r are the numbers below n from which a step of s leads into the set.
