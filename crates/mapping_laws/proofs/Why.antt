@@ -14,9 +14,10 @@ use Rattle.rules.specs.declared.Network.{Network}
 use Rattle.text.specs.Parts.{split, lines}
 use Rattle.text.specs.Words.{mappingHeader}
 use Rattle.papers.specs.declared.Refusal.{Refusal}
-use Rattle.papers.specs.Checks.{check, refusal, firstOf, ToldBy, row}
-use Rattle.papers.specs.Opening.{openingChecks, openingOf}
-use Rattle.papers.proofs.Checks.{only-given, passed-by}
+use Rattle.papers.specs.Checks.{check, refusal, firstOf}
+use Rattle.papers.specs.Opening.{openingChecks, openingOf, Opens}
+use Rattle.papers.proofs.Checks.{only-given, passed-by, numbered}
+use Rattle.papers.proofs.OpeningLaws.{opening-rows}
 use Rattle.tables.specs.declared.MessageRow.{MessageRow}
 use Rattle.tables.proofs.AllCells.{getD-zeros}
 use Rattle.mapping.specs.declared.Mapped.{Mapped}
@@ -24,7 +25,7 @@ use Rattle.maplines.specs.Line.{field, shaped, matches, isNetwork, lineChecks, 
 use Rattle.networks.specs.Networks.{networkOf}
 use Rattle.mapping.specs.Reading.{networkNo, accepted, refused, readMaps, readMapping}
 use Rattle.maplines.specs.Line.{restChecks}
-use Rattle.mapping_laws.specs.Why.{Passed, BadLine, EndsEarly, Accepted, BadOpening, Opened, LinesAnswered, MappingAnswered, MappingAccepted, BadTold}
+use Rattle.mapping_laws.specs.Why.{Passed, BadLine, EndsEarly, Accepted, BadOpening, LinesAnswered, MappingAnswered, MappingAccepted, BadTold}
 use Rattle.mapping.proofs.ReadLaws.{maps-more, maps-stop, reading-refused, reading-opened}
 
 -- ---- a line that gives no refusal
@@ -162,7 +163,7 @@ unfolding openingOf
 mapping-answered messages text = go (eqb (openingOf mappingHeader text .number) 0) refl
   where
     go : (t : Bool) → eqb (openingOf mappingHeader text .number) 0 ≡ t
-        → BadOpening text (readMapping messages text) ⊎ (Opened text × LinesAnswered messages text (readMapping messages text))
+        → BadOpening text (readMapping messages text) ⊎ (Opens mappingHeader text × LinesAnswered messages text (readMapping messages text))
     go true e =
         let z = eqb-true (openingOf mappingHeader text .number) 0 e in
         inr (z, subst (LinesAnswered messages text) (sym (reading-opened messages text z)) (answered (drop 1 (lines text)) messages 2 []))
@@ -173,21 +174,12 @@ mapping-answered messages text = go (eqb (openingOf mappingHeader text .number) 
 -- a mapping that is not refused gives each message a network
 pub mapping-accepted : MappingAccepted
 mapping-accepted messages text h =
-    ⊎-elim (λ (w : BadOpening text (readMapping messages text)). absurd (open-number (openingOf mappingHeader text) (w .told) (sym (ap (λ (r : Mapped). r .number) (w .is)) ∙ h)))
-    (λ (v : Opened text × LinesAnswered messages text (readMapping messages text)).
+    ⊎-elim (λ (w : BadOpening text (readMapping messages text)). absurd (numbered (openingChecks mappingHeader text) (openingOf mappingHeader text) (opening-rows mappingHeader text) (w .told) (sym (ap (λ (r : Mapped). r .number) (w .is)) ∙ h)))
+    (λ (v : Opens mappingHeader text × LinesAnswered messages text (readMapping messages text)).
     ⊎-elim (λ (w : Accepted messages 2 (drop 1 (lines text)) [] (readMapping messages text)). w)
     (⊎-elim (λ (w : BadLine messages 2 (drop 1 (lines text)) (readMapping messages text)). absurd (w .bad (sym (ap (λ (r : Mapped). r .number) (w .is)) ∙ h)))
     (λ (w : EndsEarly messages 2 (drop 1 (lines text)) (readMapping messages text)). absurd (omega (arith, ap (λ (r : Mapped). r .number) (w .is))))) (v .1))
     (mapping-answered messages text)
-  where
-    rows : (i : ℕ) → i < 3 → row (openingChecks mappingHeader text) i .number ≡ 0 → ⊥
-    rows zero k q = omega arith
-    rows (suc zero) k q = omega arith
-    rows (suc (suc zero)) k q = omega arith
-    rows (suc (suc (suc i))) k q = omega arith
-
-    open-number : (r : Refusal) → ToldBy (openingChecks mappingHeader text) r → r .number ≡ 0 → ⊥
-    open-number r t q = rows (t .place) (t .first .below) (sym (ap (λ (s : Refusal). s .number) (t .is)) ∙ q)
 
 -- the row of a bad line
 pub bad-told : BadTold

@@ -1,17 +1,17 @@
 -- What an answer of the reader means: each refusal is given only under its row, and what is accepted are networks.
 use Prim.Native.Nat.{ℕ, _+_, _<_}
 use mathlib.Core.Path.{_≡_}
-use mathlib.Core.List.{List, [], _++_}
 use mathlib.Core.Logic.{_⊎_}
+use mathlib.Core.List.{List, [], _++_}
 use lib.ListN.{length, getD, drop}
-use Rattle.networks.specs.Networks.{networkOf}
 use Rattle.text.specs.Parts.{split, lines}
 use Rattle.text.specs.Words.{mappingHeader}
 use Rattle.papers.specs.Checks.{refusal, ToldBy}
-use Rattle.papers.specs.Opening.{openingChecks, openingOf}
+use Rattle.papers.specs.Opening.{openingChecks, openingOf, Opens}
 use Rattle.tables.specs.declared.MessageRow.{MessageRow}
 use Rattle.mapping.specs.declared.Mapped.{Mapped}
-use Rattle.maplines.specs.Line.{lineRefusal, field, lineChecks}
+use Rattle.networks.specs.Networks.{networkOf}
+use Rattle.maplines.specs.Line.{field, lineChecks, lineRefusal}
 use Rattle.mapping.specs.Reading.{accepted, refused, readMapping}
 
 -- The lines before place j give no refusal. The first of them is line k.
@@ -49,10 +49,6 @@ pub record BadOpening (text : List ℕ) (r : Mapped) : Type 0 where
   pub told : ToldBy (openingChecks mappingHeader text) (openingOf mappingHeader text)
   pub is : r ≡ refused (openingOf mappingHeader text)
 
--- None of the three rows is given.
-abbrev pub Opened : List ℕ → Type 0
-Opened text = openingOf mappingHeader text .number ≡ 0
-
 -- The answer of the lines, from line 2 on.
 abbrev pub LinesAnswered : List MessageRow → List ℕ → Mapped → Type 0
 LinesAnswered messages text r =
@@ -62,7 +58,7 @@ LinesAnswered messages text r =
 -- Every answer is under its row, in the order of the paper.
 abbrev pub MappingAnswered : Type 0
 MappingAnswered = (messages : List MessageRow) (text : List ℕ) →
-    BadOpening text (readMapping messages text) ⊎ (Opened text × LinesAnswered messages text (readMapping messages text))
+    BadOpening text (readMapping messages text) ⊎ (Opens mappingHeader text × LinesAnswered messages text (readMapping messages text))
 
 -- A mapping text that is not refused gives each message the network of its line.
 abbrev pub MappingAccepted : Type 0

@@ -74,3 +74,11 @@ passed-by c cs h e = go (c .given) refl
     go : (t : Bool) → c .given ≡ t → (c .given ≡ false) × (firstOf cs .number ≡ 0)
     go true q = absurd (h (sym (ap (λ (r : Refusal). r .number) (first-given c cs q)) ∙ e))
     go false q = (q, sym (ap (λ (r : Refusal). r .number) (first-passed c cs q)) ∙ e)
+
+-- Every row has a number,
+abbrev pub Numbered : List Check → Type 0
+Numbered cs = (i : ℕ) → i < length cs → row cs i .number ≡ 0 → ⊥
+
+-- and so has a refusal that one of them tells.
+pub numbered : (cs : List Check) (r : Refusal) → Numbered cs → ToldBy cs r → r .number ≡ 0 → ⊥
+numbered cs r f w z = f (w .place) (w .first .below) (sym (ap (λ (x : Refusal). x .number) (w .is)) ∙ z)

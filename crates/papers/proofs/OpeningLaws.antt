@@ -2,7 +2,7 @@
 use mathlib.Core.Path.{_≡_, refl, sym, ap, _∙_}
 use mathlib.Core.Bool.{true, false, not}
 use mathlib.Core.List.{List, [], _∷_}
-use Prim.Native.Nat.{ℕ, _+_, _-_, _≤_, _<_}
+use Prim.Native.Nat.{ℕ, zero, suc, _+_, _-_, _≤_, _<_}
 use native.Mathlib.Omega.{arith}
 use native.Mathlib.Nat.{sub-zero}
 use lib.ListN.{length, take, drop, getD}
@@ -13,8 +13,8 @@ use Rattle.text.proofs.Parts.{same-true, true-same, getD-within}
 use Rattle.text.proofs.Lines.{lines-none}
 use Rattle.papers.specs.Checks.{check, refusal, none, firstOf}
 use Rattle.papers.specs.Lined.{Lined}
-use Rattle.papers.specs.Opening.{tooBig, noEnd, lastLine, beginsWith, wrongHeader, openingOf}
-use Rattle.papers.proofs.Checks.{first-given, first-passed, passed-by}
+use Rattle.papers.specs.Opening.{tooBig, noEnd, lastLine, beginsWith, wrongHeader, openingChecks, openingOf}
+use Rattle.papers.proofs.Checks.{first-given, first-passed, passed-by, Numbered}
 use Rattle.papers.proofs.Walk.{NextLine, walk-next}
 
 -- What is known of a text that is not refused before its lines are read.
@@ -26,6 +26,12 @@ pub record Opened (header text : List ℕ) : Type 0 where
   pub ends : place 10 text 0 (length text) < length text
   pub rest : lines (drop (place 10 text 0 (length text) + 1) text) ≡ drop 1 (lines text)
   pub more : Lined text (place 10 text 0 (length text) + 1)
+
+pub opening-rows : (header text : List ℕ) → Numbered (openingChecks header text)
+opening-rows header text zero h q = omega arith
+opening-rows header text (suc zero) h q = omega arith
+opening-rows header text (suc (suc zero)) h q = omega arith
+opening-rows header text (suc (suc (suc i))) h q = omega arith
 
 begins : (header : List ℕ) (ls : List (List ℕ)) → beginsWith header ls ≡ true → ls ≡ header ∷ drop 1 ls
 begins header [] e = absurd (let q : _≡_ {A = ℕ} 0 1 = cc in omega arith)

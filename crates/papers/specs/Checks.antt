@@ -1,9 +1,9 @@
 -- Checks as data, in the paper's order: what is refused is the first check that holds.
-use lib.ListN.{length, getD}
 use Prim.Native.Nat.{ℕ, _<_}
+use mathlib.Core.Path.{_≡_}
 use mathlib.Core.Bool.{Bool, true, false}
 use mathlib.Core.List.{List, [], _∷_}
-use mathlib.Core.Path.{_≡_}
+use lib.ListN.{length, getD}
 use Rattle.papers.specs.declared.Refusal.{Refusal}
 
 -- A row of the refusal table: its number, the line that it tells, and whether it is given here.

@@ -1,5 +1,6 @@
 -- The refusals 1 to 3, which are about the text as a whole.
 use Prim.Native.Nat.{ℕ, _+_, _-_}
+use mathlib.Core.Path.{_≡_}
 use mathlib.Core.Bool.{Bool, false, not}
 use mathlib.Core.List.{List, [], _∷_}
 use lib.ListN.{length, getD}
@@ -39,3 +40,7 @@ openingChecks header text =
 -- How a text with this header is refused before its lines are read.
 unfoldable pub openingOf : List ℕ → List ℕ → Refusal
 openingOf header text = firstOf (openingChecks header text)
+
+-- None of the three rows is given.
+abbrev pub Opens : List ℕ → List ℕ → Type 0
+Opens header text = openingOf header text .number ≡ 0

@@ -12,9 +12,10 @@ use borrow.Author.Tests.{eqb-true, eqb-false, not-true, ltb-true}
 use Rattle.text.specs.Parts.{split, lines}
 use Rattle.text.specs.Words.{protocolHeader}
 use Rattle.papers.specs.declared.Refusal.{Refusal}
-use Rattle.papers.specs.Checks.{Check, ToldBy, told, row}
-use Rattle.papers.specs.Opening.{openingChecks, openingOf}
-use Rattle.papers.proofs.Checks.{only-given}
+use Rattle.papers.specs.Checks.{ToldBy, told, row}
+use Rattle.papers.specs.Opening.{openingChecks, openingOf, Opens}
+use Rattle.papers.proofs.Checks.{only-given, Numbered, numbered}
+use Rattle.papers.proofs.OpeningLaws.{opening-rows}
 use Rattle.tables.specs.declared.Tables.{Tables}
 use Rattle.tables.specs.Tables.{clearedTables}
 use Rattle.records.specs.Line.{Line, sectionOf}
@@ -23,7 +24,7 @@ use Rattle.whole.specs.declared.Reading.{Reading}
 use Rattle.whole.specs.Whole.{refused, accepted, noEntryAt, wholeChecks, wholeRefusal}
 use Rattle.sections.specs.Lines.{stored, readLines}
 use Rattle.protocol.specs.Reading.{readProtocol}
-use Rattle.protocol_laws.specs.Promises.{after, fieldsAt, refusalAt, Unrefused, BadOpening, BadLine, BadWhole, AllRead, LinesAnswered, linesOf, EveryAnswer, atEnd, Unbroken, Comes, Why, OnlyUnderItsRow, RefusedCleared, too-big, no-end, header, shape, order, name, not-declared, declared-twice, too-many, stall-stable, clashes, no-message, no-entry, Opened}
+use Rattle.protocol_laws.specs.Promises.{after, fieldsAt, refusalAt, Unrefused, BadOpening, BadLine, BadWhole, AllRead, LinesAnswered, linesOf, EveryAnswer, atEnd, Unbroken, Comes, Why, OnlyUnderItsRow, RefusedCleared, too-big, no-end, header, shape, order, name, not-declared, declared-twice, too-many, stall-stable, clashes, no-message, no-entry}
 use Rattle.whole.specs.Kept.{Kept}
 use Rattle.sections.proofs.Kept.{kept-cleared}
 use Rattle.protocol_laws.proofs.KeptLines.{kept-after}
@@ -136,7 +137,7 @@ unfolding openingOf
 every-answer text = go (eqb (openingOf protocolHeader text .number) 0) refl
   where
     go : (b : Bool) → eqb (openingOf protocolHeader text .number) 0 ≡ b
-        → BadOpening text (readProtocol text) ⊎ (Opened text × LinesAnswered clearedTables 2 (linesOf text) (readProtocol text))
+        → BadOpening text (readProtocol text) ⊎ (Opens protocolHeader text × LinesAnswered clearedTables 2 (linesOf text) (readProtocol text))
     go true e =
         let z = eqb-true (openingOf protocolHeader text .number) 0 e in
         inr (z, subst (LinesAnswered clearedTables 2 (linesOf text)) (sym (reading-opened text z)) (lines-answered (linesOf text) clearedTables 2))
@@ -148,7 +149,7 @@ every-answer text = go (eqb (openingOf protocolHeader text .number) 0) refl
 answer : (text : List ℕ) → BadOpening text (readProtocol text) ⊎ LinesAnswered clearedTables 2 (linesOf text) (readProtocol text)
 answer text =
     ⊎-elim (λ (w : BadOpening text (readProtocol text)). inl w)
-    (λ (w : Opened text × LinesAnswered clearedTables 2 (linesOf text) (readProtocol text)). inr (w .1)) (every-answer text)
+    (λ (w : Opens protocolHeader text × LinesAnswered clearedTables 2 (linesOf text) (readProtocol text)). inr (w .1)) (every-answer text)
 
 -- the tables at the end are in order
 pub kept-end : (text : List ℕ) → Unbroken text (length (linesOf text)) → Kept (atEnd text)
@@ -218,18 +219,6 @@ refused-cleared text z =
 
 -- ---- every row has a number
 
-abbrev Numbered : List Check → Type 0
-Numbered cs = (i : ℕ) → i < length cs → row cs i .number ≡ 0 → ⊥
-
-numbered : (cs : List Check) (r : Refusal) → Numbered cs → ToldBy cs r → r .number ≡ 0 → ⊥
-numbered cs r f w z = f (w .place) (w .first .below) (sym (ap (λ (x : Refusal). x .number) (w .is)) ∙ z)
-
-opening-rows : (text : List ℕ) → Numbered (openingChecks protocolHeader text)
-opening-rows text zero h q = omega arith
-opening-rows text (suc zero) h q = omega arith
-opening-rows text (suc (suc zero)) h q = omega arith
-opening-rows text (suc (suc (suc i))) h q = omega arith
-
 line-rows : (t : Tables) (k : ℕ) (f : Line) → Numbered (lineChecks t k f)
 line-rows t k f zero h q = omega arith
 line-rows t k f (suc zero) h q = omega arith
@@ -250,7 +239,7 @@ whole-rows t (suc (suc i)) h q = omega arith
 pub all-read : (text : List ℕ) → readProtocol text .number ≡ 0 → AllRead clearedTables 2 (linesOf text) (readProtocol text)
 all-read text z =
     let a = readProtocol text in
-    ⊎-elim (λ (w : BadOpening text a). absurd (numbered (openingChecks protocolHeader text) (openingOf protocolHeader text) (opening-rows text) (w .told) (sym (ap (λ (r : Reading). r .number) (w .is)) ∙ z)))
+    ⊎-elim (λ (w : BadOpening text a). absurd (numbered (openingChecks protocolHeader text) (openingOf protocolHeader text) (opening-rows protocolHeader text) (w .told) (sym (ap (λ (r : Reading). r .number) (w .is)) ∙ z)))
     (⊎-elim (λ (w : AllRead clearedTables 2 (linesOf text) a). w)
     (⊎-elim
     (λ (w : BadLine clearedTables 2 (linesOf text) a).

@@ -11,7 +11,7 @@ use Rattle.text.specs.Parts.{split, lines}
 use Rattle.text.specs.Words.{protocolHeader}
 use Rattle.papers.specs.Checks.{ToldBy}
 use Rattle.papers.specs.declared.Refusal.{Refusal}
-use Rattle.papers.specs.Opening.{tooBig, noEnd, lastLine, wrongHeader, openingChecks, openingOf}
+use Rattle.papers.specs.Opening.{tooBig, noEnd, lastLine, wrongHeader, openingChecks, openingOf, Opens}
 use Rattle.tables.specs.declared.Tables.{Tables}
 use Rattle.tables.specs.Tables.{clearedTables}
 use Rattle.tables.specs.Cells.{cellsOf, relationsOfTables}
@@ -78,14 +78,10 @@ LinesAnswered t k ls r = AllRead t k ls r ⊎ (BadLine t k ls r ⊎ BadWhole t k
 abbrev pub linesOf : List ℕ → List (List ℕ)
 linesOf text = drop 1 (lines text)
 
--- None of the rows 1 to 3 is given.
-abbrev pub Opened : List ℕ → Type 0
-Opened text = openingOf protocolHeader text .number ≡ 0
-
 -- Every answer is one of the four, in the order of the paper.
 abbrev pub EveryAnswer : Type 0
 EveryAnswer = (text : List ℕ) →
-    BadOpening text (readProtocol text) ⊎ (Opened text × LinesAnswered clearedTables 2 (linesOf text) (readProtocol text))
+    BadOpening text (readProtocol text) ⊎ (Opens protocolHeader text × LinesAnswered clearedTables 2 (linesOf text) (readProtocol text))
 
 -- ---- the rows 1 to 13
 
