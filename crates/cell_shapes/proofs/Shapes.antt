@@ -12,13 +12,13 @@ use Rattle.text.specs.declared.Fields.{Fields}
 use Rattle.text.specs.Parts.{split, sameText}
 use Rattle.text.specs.Words.{stallWord, goWord}
 use Rattle.tables.specs.declared.Controller.{Controller}
-use Rattle.records.specs.declared.FoundController.the-variants.{Is as IsController, Nothing as NoController}
+use Rattle.state_words.specs.declared.FoundController.the-variants.{Is as IsController, Nothing as NoController}
 use Rattle.records.specs.Line.{Line, field, says, cell, isController, cellController}
 use Rattle.records.specs.Checks.{shaped, stallShape, goShape}
 use Rattle.records.specs.Told.{FieldsAre}
-use Rattle.records.specs.Found.{foundController}
+use Rattle.state_words.specs.Found.{foundController}
 use Rattle.records.proofs.Fields.{few, counted, many}
-use Rattle.records.proofs.Words.{controller-is, controller-nothing}
+use Rattle.state_words.proofs.Words.{controller-is, controller-nothing}
 use Rattle.records.proofs.Sections.{other-word}
 use Rattle.records.proofs.Both.{and-left, and-right}
 use Rattle.cell_shapes.specs.declared.Shape.the-variants.{Stall, Go, Wrong}

@@ -3,7 +3,7 @@ ghost use mathlib.Core.Path.{_≡_};
 ghost use Rattle.text.specs.Parts.{split};
 ghost use Rattle.records.specs.Told.{FieldsAre};
 ghost use Rattle.cell_shapes.specs.Shape.{shapeOf};
-use records::FoundController;
+use state_words::FoundController;
 use tables::Controller;
 use text::Fields;
 
@@ -26,7 +26,7 @@ pub fn shape_of(line: &[u8], f: Fields) -> Shape
     if 14 < n {
         return Shape::Wrong;
     }
-    let found = records::controller_at(line, f, 1);
+    let found = state_words::controller_at(line, f, 1);
     let FoundController::Is(whose) = found else {
         return Shape::Wrong;
     };

@@ -27,7 +27,7 @@ use Rattle.names.specs.declared.FoundState.the-variants.{At as StateAt, Nothing
 use Rattle.names.specs.Names.{messageNamed, eventNamed, stateNamed, messageAt, eventAt, stateAt, isMessage, isEvent, isState, foundMessage, foundEvent, foundState}
 use Rattle.records.specs.Line.{messageNo, triggerOf}
 use Rattle.records.specs.Checks.{isTrigger, isCache}
-use Rattle.records.proofs.Words.{found-is, found-nothing}
+use Rattle.records.proofs.Found.{found-is, found-nothing}
 use Rattle.places.specs.declared.FoundTrigger.{FoundTrigger}
 use Rattle.places.specs.declared.FoundTrigger.the-variants.{At, Nothing}
 use Rattle.tables.specs.Given.{MessagesAre, EventsAre, StatesAre}

@@ -6,11 +6,7 @@ use mathlib.Core.List.{List}
 use Rattle.determined.specs.Determined.{Determines}
 use Rattle.determined.proofs.Equal.{equal}
 use Rattle.text.specs.Parts.{split}
-use Rattle.records.specs.declared.FoundKind.{FoundKind}
-use Rattle.records.specs.declared.FoundController.{FoundController}
-use Rattle.records.specs.declared.FoundStability.{FoundStability}
 use Rattle.records.specs.Line.{field, says}
-use Rattle.records.specs.Found.{foundKind, foundController, foundStability}
 
 module _ (line : List ℕ) (i : ℕ) where
   pub field-at-determined : Determines (λ (r : List ℕ). r ≡ field (split 9 line) i)
@@ -18,15 +14,6 @@ module _ (line : List ℕ) (i : ℕ) where
 
   pub word-at-determined : (word : List ℕ) → Determines (λ (r : Bool). r ≡ says (split 9 line) i word)
   word-at-determined word = equal _
-
-  pub kind-at-determined : Determines (λ (r : FoundKind). r ≡ foundKind (field (split 9 line) i))
-  kind-at-determined = equal _
-
-  pub controller-at-determined : Determines (λ (r : FoundController). r ≡ foundController (field (split 9 line) i))
-  controller-at-determined = equal _
-
-  pub stability-at-determined : Determines (λ (r : FoundStability). r ≡ foundStability (field (split 9 line) i))
-  stability-at-determined = equal _
 
 pub is-record-determined : (line word : List ℕ) → Determines (λ (r : Bool). r ≡ says (split 9 line) 0 word)
 is-record-determined line word = equal _

@@ -1,4 +1,3 @@
 pub mod Line
 pub mod Checks
 pub mod Told
-pub mod Found

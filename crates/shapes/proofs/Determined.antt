@@ -6,7 +6,7 @@ use mathlib.Core.List.{List}
 use Rattle.determined.specs.Determined.{Determines}
 use Rattle.determined.proofs.Equal.{equal}
 use Rattle.text.specs.Parts.{split}
-use Rattle.records.specs.declared.FoundKind.{FoundKind}
+use Rattle.kinds.specs.declared.FoundKind.{FoundKind}
 use Rattle.records.specs.Line.{event}
 use Rattle.records.specs.Checks.{shaped}
 use Rattle.shapes.specs.declared.StateWords.{StateWords}

@@ -1,3 +1,4 @@
+pub mod Counts
 pub mod Shaped
 pub mod Misplacing
 pub mod Determined

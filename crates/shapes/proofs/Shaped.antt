@@ -12,16 +12,19 @@ use Rattle.text.specs.Parts.{split}
 use Rattle.tables.specs.declared.Kind.{Kind}
 use Rattle.tables.specs.declared.Controller.{Controller}
 use Rattle.tables.specs.declared.Stability.{Stability}
-use Rattle.records.specs.declared.FoundKind.the-variants.{Is as IsKind, Nothing as NoKind}
-use Rattle.records.specs.declared.FoundController.the-variants.{Is as IsController, Nothing as NoController}
-use Rattle.records.specs.declared.FoundStability.the-variants.{Is as IsStability, Nothing as NoStability}
+use Rattle.kinds.specs.declared.FoundKind.the-variants.{Is as IsKind, Nothing as NoKind}
+use Rattle.state_words.specs.declared.FoundController.the-variants.{Is as IsController, Nothing as NoController}
+use Rattle.state_words.specs.declared.FoundStability.the-variants.{Is as IsStability, Nothing as NoStability}
 use Rattle.shapes.specs.declared.StateWords.the-variants.{Are as StateAre, Nothing as NoState}
 use Rattle.records.specs.Line.{Line, field, message, event, state, isKind, kindOf, isController, controllerOf, isStability, stabilityOf}
 use Rattle.records.specs.Checks.{shaped}
 use Rattle.records.specs.Told.{FieldsAre}
-use Rattle.records.specs.Found.{foundKind, foundController, foundStability}
+use Rattle.kinds.specs.Found.{foundKind}
+use Rattle.state_words.specs.Found.{foundController, foundStability}
 use Rattle.shapes.specs.Shapes.{messageShape, stateShape}
-use Rattle.records.proofs.Words.{found-is, found-nothing, controller-is, controller-nothing, stability-is, stability-nothing, count-same}
+use Rattle.records.proofs.Found.{found-is, found-nothing}
+use Rattle.state_words.proofs.Words.{controller-is, controller-nothing, stability-is, stability-nothing}
+use Rattle.shapes.proofs.Counts.{count-same}
 use Rattle.records.proofs.Both.{and-left}
 
 -- ---- the fields of a shaped line

@@ -5,8 +5,8 @@ use mathlib.Core.Bool.{true, cond}
 use mathlib.Core.List.{List}
 use Rattle.text.specs.Parts.{split}
 use Rattle.tables.specs.declared.Tables.{Tables}
-use Rattle.records.specs.declared.FoundKind.{FoundKind}
-use Rattle.records.specs.declared.FoundKind.the-variants.{Is as IsKind, Nothing as NoKind}
+use Rattle.kinds.specs.declared.FoundKind.{FoundKind}
+use Rattle.kinds.specs.declared.FoundKind.the-variants.{Is as IsKind, Nothing as NoKind}
 use Rattle.records.specs.Line.{Line, field, message, state, unknown, sectionOf, kindOf, controllerOf, stabilityOf}
 use Rattle.records.specs.Checks.{shaped, laterRead}
 use Rattle.records.specs.Told.{Refuses}

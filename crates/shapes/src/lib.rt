@@ -7,9 +7,9 @@ ghost use Rattle.records.specs.Line.{says, message, event, state};
 ghost use Rattle.records.specs.Checks.{shaped};
 ghost use Rattle.records.specs.Told.{FieldsAre};
 ghost use Rattle.shapes.specs.Shapes.{messageShape, stateShape, Misplaced};
-use records::FoundController;
-use records::FoundKind;
-use records::FoundStability;
+use kinds::FoundKind;
+use state_words::FoundController;
+use state_words::FoundStability;
 use tables::Controller;
 use tables::Stability;
 use text::Fields;
@@ -28,7 +28,7 @@ pub fn message_shape(line: &[u8], f: Fields) -> FoundKind
     if f.count != 3 {
         return FoundKind::Nothing;
     }
-    records::kind_at(line, f, 2)
+    kinds::kind_at(line, f, 2)
 }
 
 // Whether an event's line is shaped.
@@ -47,10 +47,10 @@ pub fn state_shape(line: &[u8], f: Fields) -> StateWords
     if f.count != 4 {
         return StateWords::Nothing;
     }
-    let FoundController::Is(controller) = records::controller_at(line, f, 1) else {
+    let FoundController::Is(controller) = state_words::controller_at(line, f, 1) else {
         return StateWords::Nothing;
     };
-    let FoundStability::Is(stability) = records::stability_at(line, f, 3) else {
+    let FoundStability::Is(stability) = state_words::stability_at(line, f, 3) else {
         return StateWords::Nothing;
     };
     StateWords::Are(controller, stability)

@@ -1,6 +1,6 @@
 -- `shapes::event_shape` meets its contract.
 use native.Mathlib.Omega.{arith}
-use Rattle.records.proofs.Words.{count-same}
+use Rattle.shapes.proofs.Counts.{count-same}
 use Rattle.shapes.proofs.event_shape.Statement.{statement}
 use Rattle.shapes.proofs.event_shape.Tie as tie
 

@@ -1,7 +1,7 @@
 -- `shapes::message_shape` meets its contract.
 use native.Mathlib.Omega.{arith}
 use mathlib.Core.Path.{_∙_}
-use Rattle.records.proofs.Words.{count-is, count-is-not}
+use Rattle.shapes.proofs.Counts.{count-is, count-is-not}
 use Rattle.shapes.proofs.Shaped.{message-short, message-long}
 use borrow.Author.Needs.{needs}
 use Rattle.shapes.proofs.message_shape.Statement.{statement}

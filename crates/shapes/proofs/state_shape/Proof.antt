@@ -1,7 +1,7 @@
 -- `shapes::state_shape` meets its contract.
 use native.Mathlib.Omega.{arith}
 use mathlib.Core.Path.{sym, _∙_}
-use Rattle.records.proofs.Words.{count-is, count-is-not}
+use Rattle.shapes.proofs.Counts.{count-is, count-is-not}
 use Rattle.shapes.proofs.Shaped.{state-short, state-no-controller, state-no-stability, state-both}
 use borrow.Author.Needs.{needs}
 use Rattle.shapes.proofs.state_shape.Statement.{statement}

@@ -1,9 +1,9 @@
--- `records::controller_at` meets its contract.
-use Rattle.records.proofs.Words.{says-cache, says-dir, says-no-controller}
+-- `state_words::controller_at` meets its contract.
+use Rattle.state_words.proofs.Words.{says-cache, says-dir, says-no-controller}
 use mathlib.Core.Path.{sym, _∙_}
 use borrow.Author.Needs.{needs}
-use Rattle.records.proofs.controller_at.Statement.{statement}
-use Rattle.records.proofs.controller_at.Tie as tie
+use Rattle.state_words.proofs.controller_at.Statement.{statement}
+use Rattle.state_words.proofs.controller_at.Tie as tie
 
 slice-aggregate-word-at : tie.Need-slice-aggregate-word-at
 slice-aggregate-word-at c = search needs

@@ -1,9 +1,9 @@
--- `records::stability_at` meets its contract.
-use Rattle.records.proofs.Words.{says-stable, says-transient, says-no-stability}
+-- `state_words::stability_at` meets its contract.
+use Rattle.state_words.proofs.Words.{says-stable, says-transient, says-no-stability}
 use mathlib.Core.Path.{sym, _∙_}
 use borrow.Author.Needs.{needs}
-use Rattle.records.proofs.stability_at.Statement.{statement}
-use Rattle.records.proofs.stability_at.Tie as tie
+use Rattle.state_words.proofs.stability_at.Statement.{statement}
+use Rattle.state_words.proofs.stability_at.Tie as tie
 
 slice-aggregate-word-at : tie.Need-slice-aggregate-word-at
 slice-aggregate-word-at c = search needs

@@ -1,9 +1,9 @@
--- `records::kind_at` meets its contract.
-use Rattle.records.proofs.Words.{says-req, says-fwd, says-data, says-ctl, says-no-kind}
+-- `kinds::kind_at` meets its contract.
+use Rattle.kinds.proofs.Words.{says-req, says-fwd, says-data, says-ctl, says-no-kind}
 use mathlib.Core.Path.{sym, _∙_}
 use borrow.Author.Needs.{needs}
-use Rattle.records.proofs.kind_at.Statement.{statement}
-use Rattle.records.proofs.kind_at.Tie as tie
+use Rattle.kinds.proofs.kind_at.Statement.{statement}
+use Rattle.kinds.proofs.kind_at.Tie as tie
 
 slice-aggregate-word-at : tie.Need-slice-aggregate-word-at
 slice-aggregate-word-at c = search needs

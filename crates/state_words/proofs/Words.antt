@@ -1,0 +1,63 @@
+-- The words of a state: what a field is found to say, from the comparisons with each word.
+use Prim.Native.Nat.{ℕ}
+use mathlib.Core.Path.{_≡_}
+use mathlib.Core.Bool.{true, false}
+use mathlib.Core.List.{List}
+use native.Mathlib.Omega.{arith}
+use Rattle.text.specs.Parts.{sameText}
+use Rattle.text.specs.Words.{cacheWord, dirWord, stableWord, transientWord}
+use Rattle.tables.specs.declared.Controller.{Controller}
+use Rattle.tables.specs.declared.Controller.the-variants.{Cache, Dir}
+use Rattle.tables.specs.declared.Stability.{Stability}
+use Rattle.tables.specs.declared.Stability.the-variants.{Stable, Transient}
+use Rattle.records.specs.Line.{isController, controllerOf, isStability, stabilityOf}
+use Rattle.records.proofs.Found.{found-is, found-nothing}
+use Rattle.state_words.specs.declared.FoundController.the-variants.{Is as IsController, Nothing as NoController}
+use Rattle.state_words.specs.declared.FoundStability.the-variants.{Is as IsStability, Nothing as NoStability}
+use Rattle.state_words.specs.Found.{foundController, foundStability}
+
+-- ---- one field
+
+module _ (x : List ℕ) where
+  pub says-cache : sameText x cacheWord ≡ true → IsController Cache ≡ foundController x
+  unfolding foundController
+  says-cache a = rw a
+
+  pub says-dir : sameText x cacheWord ≡ false → sameText x dirWord ≡ true → IsController Dir ≡ foundController x
+  unfolding foundController
+  says-dir a b = rw (a, b)
+
+  pub says-no-controller : sameText x cacheWord ≡ false → sameText x dirWord ≡ false → NoController ≡ foundController x
+  unfolding foundController
+  says-no-controller a b = rw (a, b)
+
+  pub says-stable : sameText x stableWord ≡ true → IsStability Stable ≡ foundStability x
+  unfolding foundStability
+  says-stable a = rw a
+
+  pub says-transient : sameText x stableWord ≡ false → sameText x transientWord ≡ true → IsStability Transient ≡ foundStability x
+  unfolding foundStability
+  says-transient a b = rw (a, b)
+
+  pub says-no-stability : sameText x stableWord ≡ false → sameText x transientWord ≡ false → NoStability ≡ foundStability x
+  unfolding foundStability
+  says-no-stability a b = rw (a, b)
+
+-- ---- what was found tells what the field is
+
+module _ (x : List ℕ) where
+  pub controller-is : (k : Controller) → IsController k ≡ foundController x → (isController x ≡ true) × (k ≡ controllerOf x)
+  unfolding foundController
+  controller-is k e = found-is IsController NoController (λ a b q. cc) (λ a q. let z : _≡_ {A = ℕ} 0 1 = cc in omega arith) (isController x) (controllerOf x) k e
+
+  pub controller-nothing : NoController ≡ foundController x → isController x ≡ false
+  unfolding foundController
+  controller-nothing e = found-nothing IsController NoController (λ a b q. cc) (λ a q. let z : _≡_ {A = ℕ} 0 1 = cc in omega arith) (isController x) (controllerOf x) e
+
+  pub stability-is : (k : Stability) → IsStability k ≡ foundStability x → (isStability x ≡ true) × (k ≡ stabilityOf x)
+  unfolding foundStability
+  stability-is k e = found-is IsStability NoStability (λ a b q. cc) (λ a q. let z : _≡_ {A = ℕ} 0 1 = cc in omega arith) (isStability x) (stabilityOf x) k e
+
+  pub stability-nothing : NoStability ≡ foundStability x → isStability x ≡ false
+  unfolding foundStability
+  stability-nothing e = found-nothing IsStability NoStability (λ a b q. cc) (λ a q. let z : _≡_ {A = ℕ} 0 1 = cc in omega arith) (isStability x) (stabilityOf x) e
