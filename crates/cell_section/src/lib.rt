@@ -52,7 +52,7 @@ pub fn read_cells(text: &[u8], from: usize, first: usize, given: Tables) -> Read
         let f = n.fields;
         let part = &text[at..e];
         if !n.is {
-            let number = shapes::misplaced(part, f);
+            let number = late_lines::misplaced(part, f);
             return whole::refused_at(number, line);
         }
         let r = cell_of(part, f, t);

@@ -19,7 +19,7 @@ use Rattle.records.specs.Line.{Line, says, Section, message, event, state, cell
 use Rattle.records.specs.Told.{Refuses}
 use Rattle.declarations.specs.Told.{MessageTold, EventTold, StateTold}
 use Rattle.records.specs.Checks.{shaped, laterRead}
-use Rattle.shapes.specs.Shapes.{misplacedNumber, Misplaced}
+use Rattle.late_lines.specs.Place.{misplacedNumber, Misplaced}
 use Rattle.cells.specs.declared.CellLine.{CellLine}
 use Rattle.tables.specs.Given.{Declared}
 use Rattle.cells.specs.Told.{CellTold}

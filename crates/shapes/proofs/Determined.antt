@@ -1,6 +1,6 @@
 -- Each contract of this crate leaves one answer.
 use Prim.Native.Nat.{ℕ}
-use mathlib.Core.Path.{_≡_, sym, _∙_}
+use mathlib.Core.Path.{_≡_}
 use mathlib.Core.Bool.{Bool}
 use mathlib.Core.List.{List}
 use Rattle.determined.specs.Determined.{Determines}
@@ -10,7 +10,7 @@ use Rattle.kinds.specs.declared.FoundKind.{FoundKind}
 use Rattle.records.specs.Line.{event}
 use Rattle.records.specs.Checks.{shaped}
 use Rattle.shapes.specs.declared.StateWords.{StateWords}
-use Rattle.shapes.specs.Shapes.{messageShape, stateShape, Misplaced}
+use Rattle.shapes.specs.Shapes.{messageShape, stateShape}
 
 module _ (line : List ℕ) where
   pub message-shape-determined : Determines (λ (r : FoundKind). r ≡ messageShape (split 9 line))
@@ -21,6 +21,3 @@ module _ (line : List ℕ) where
 
   pub state-shape-determined : Determines (λ (r : StateWords). r ≡ stateShape (split 9 line))
   state-shape-determined = equal _
-
-  pub misplaced-determined : Determines (Misplaced line)
-  misplaced-determined r s p q = p .is ∙ sym (q .is)

@@ -1,4 +1,3 @@
 pub mod Counts
 pub mod Shaped
-pub mod Misplacing
 pub mod Determined

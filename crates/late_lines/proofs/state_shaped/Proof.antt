@@ -1,9 +1,9 @@
--- `shapes::state_shaped` meets its contract.
+-- `late_lines::state_shaped` meets its contract.
 use mathlib.Core.Path.{sym, _∙_}
 use Rattle.shapes.proofs.Shaped.{state-is, state-nothing}
 use borrow.Author.Needs.{needs}
-use Rattle.shapes.proofs.state_shaped.Statement.{statement}
-use Rattle.shapes.proofs.state_shaped.Tie as tie
+use Rattle.late_lines.proofs.state_shaped.Statement.{statement}
+use Rattle.late_lines.proofs.state_shaped.Tie as tie
 
 state-shape-requires : tie.Need-state-shape-requires
 state-shape-requires c κs = search needs

@@ -7,7 +7,7 @@ use Rattle.text.specs.Parts.{split}
 use Rattle.tables.specs.declared.Tables.{Tables}
 use Rattle.records.specs.Line.{Line, Section, unknown, sectionOf}
 use Rattle.records.specs.Checks.{shaped, laterRead, badName, notKnown, twice, full, stallInStable, conflict}
-use Rattle.shapes.specs.Shapes.{misplacedNumber, Misplaced}
+use Rattle.late_lines.specs.Place.{misplacedNumber, Misplaced}
 use Rattle.records.proofs.Numbers.{eightOf, lineNumber, refuses}
 
 turned : (b : Bool) → _≡_ {A = ℕ} (cond (not b) 4 5) (cond b 5 4)

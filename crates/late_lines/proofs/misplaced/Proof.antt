@@ -1,12 +1,12 @@
--- `shapes::misplaced` meets its contract.
+-- `late_lines::misplaced` meets its contract.
 use mathlib.Core.Path.{refl, sym, _∙_}
 use mathlib.Core.Bool.{false}
 use Rattle.records.specs.Line.{message, event, state, unknown}
 use Rattle.records.proofs.Sections.{a-message, an-event, a-state, no-section}
-use Rattle.shapes.proofs.Misplacing.{misplaced-when}
+use Rattle.late_lines.proofs.Misplacing.{misplaced-when}
 use borrow.Author.Needs.{needs}
-use Rattle.shapes.proofs.misplaced.Statement.{statement}
-use Rattle.shapes.proofs.misplaced.Tie as tie
+use Rattle.late_lines.proofs.misplaced.Statement.{statement}
+use Rattle.late_lines.proofs.misplaced.Tie as tie
 
 slice-aggregate-is-record : tie.Need-slice-aggregate-is-record
 slice-aggregate-is-record c = search needs

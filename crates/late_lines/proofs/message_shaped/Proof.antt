@@ -1,9 +1,9 @@
--- `shapes::message_shaped` meets its contract.
+-- `late_lines::message_shaped` meets its contract.
 use mathlib.Core.Path.{sym, _∙_}
 use Rattle.shapes.proofs.Shaped.{message-is, message-nothing}
 use borrow.Author.Needs.{needs}
-use Rattle.shapes.proofs.message_shaped.Statement.{statement}
-use Rattle.shapes.proofs.message_shaped.Tie as tie
+use Rattle.late_lines.proofs.message_shaped.Statement.{statement}
+use Rattle.late_lines.proofs.message_shaped.Tie as tie
 
 message-shape-requires : tie.Need-message-shape-requires
 message-shape-requires c κs = search needs

@@ -1,0 +1,2 @@
+pub mod Misplacing
+pub mod Determined
