@@ -7,18 +7,14 @@ use lib.ListN.{take}
 use borrow.Author.Tests.{lt-ltb, le-ltb}
 use Rattle.rules.specs.declared.Message.{Message}
 use Rattle.rules.specs.declared.Event.{Event}
-use Rattle.rules.specs.declared.State.{State}
 use Rattle.text.specs.Parts.{firstIndex}
-use Rattle.tables.specs.declared.Controller.{Controller}
 use Rattle.tables.specs.declared.MessageRow.{MessageRow}
 use Rattle.tables.specs.declared.EventRow.{EventRow}
-use Rattle.tables.specs.declared.StateRow.{StateRow}
 use Rattle.names.specs.declared.FoundMessage.the-variants.{At as MessageAt, Nothing as NoMessage}
 use Rattle.names.specs.declared.FoundEvent.the-variants.{At as EventAt, Nothing as NoEvent}
-use Rattle.names.specs.declared.FoundState.the-variants.{At as StateAt, Nothing as NoState}
-use Rattle.names.specs.Names.{messageNamed, eventNamed, stateNamed, foundMessage, foundEvent, foundState}
-use Rattle.names.proofs.Look.{message-at, message-none, event-at, event-none, state-at, state-none}
-use Rattle.declarations.specs.Known.{messageDeclared, eventDeclared, stateDeclared}
+use Rattle.names.specs.Names.{messageNamed, eventNamed, foundMessage, foundEvent}
+use Rattle.names.proofs.Look.{message-at, message-none, event-at, event-none}
+use Rattle.declarations.specs.Known.{messageDeclared, eventDeclared}
 
 module _ (messages : List MessageRow) (count : ℕ) (x : List ℕ) {y : List ℕ} (same : y ≡ x) where
   pub message-found : {m : Message} → foundMessage (firstIndex (messageNamed y) (take count messages)) count ≡ MessageAt m → true ≡ messageDeclared messages count x
@@ -45,16 +41,3 @@ module _ (events : List EventRow) (count : ℕ) (x : List ℕ) {y : List ℕ} (s
   event-missing e =
       let i = firstIndex (eventNamed y) (take count events) in
       sym (le-ltb i count (event-none i count e)) ∙ ap (λ (z : List ℕ). eventDeclared events count z) same
-
-module _ (states : List StateRow) (count : ℕ) (c : Controller) (x : List ℕ) {y : List ℕ} (same : y ≡ x) where
-  pub state-found : {m : State} → foundState (firstIndex (stateNamed c y) (take count states)) count ≡ StateAt m → true ≡ stateDeclared states count c x
-  unfolding stateDeclared
-  state-found {m} e =
-      let i = firstIndex (stateNamed c y) (take count states) in
-      sym (lt-ltb i count (state-at i count m e .0)) ∙ ap (λ (z : List ℕ). stateDeclared states count c z) same
-
-  pub state-missing : foundState (firstIndex (stateNamed c y) (take count states)) count ≡ NoState → false ≡ stateDeclared states count c x
-  unfolding stateDeclared
-  state-missing e =
-      let i = firstIndex (stateNamed c y) (take count states) in
-      sym (le-ltb i count (state-none i count e)) ∙ ap (λ (z : List ℕ). stateDeclared states count c z) same

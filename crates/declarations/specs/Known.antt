@@ -5,17 +5,12 @@ use mathlib.Core.List.{List}
 use lib.ListN.{take}
 use lib.Dec.{ltb}
 use Rattle.text.specs.Parts.{firstIndex}
-use Rattle.tables.specs.declared.Controller.{Controller}
 use Rattle.tables.specs.declared.MessageRow.{MessageRow}
 use Rattle.tables.specs.declared.EventRow.{EventRow}
-use Rattle.tables.specs.declared.StateRow.{StateRow}
-use Rattle.names.specs.Names.{messageNamed, eventNamed, stateNamed}
+use Rattle.names.specs.Names.{messageNamed, eventNamed}
 
 unfoldable pub messageDeclared : List MessageRow → ℕ → List ℕ → Bool
 messageDeclared messages count x = ltb (firstIndex (messageNamed x) (take count messages)) count
 
 unfoldable pub eventDeclared : List EventRow → ℕ → List ℕ → Bool
 eventDeclared events count x = ltb (firstIndex (eventNamed x) (take count events)) count
-
-unfoldable pub stateDeclared : List StateRow → ℕ → Controller → List ℕ → Bool
-stateDeclared states count c x = ltb (firstIndex (stateNamed c x) (take count states)) count

@@ -5,14 +5,12 @@ use mathlib.Core.List.{List}
 use Rattle.text.specs.Parts.{split}
 use Rattle.tables.specs.declared.MessageRow.{MessageRow}
 use Rattle.tables.specs.declared.EventRow.{EventRow}
-use Rattle.tables.specs.declared.StateRow.{StateRow}
 use Rattle.tables.specs.declared.Tables.{Tables}
-use Rattle.tables.specs.Tables.{noMessage, noEvent, noState}
-use Rattle.records.specs.Line.{messageOf, eventOf, stateOf}
+use Rattle.tables.specs.Tables.{noMessage, noEvent}
+use Rattle.records.specs.Line.{messageOf, eventOf}
 use Rattle.records.specs.Told.{Refuses}
 use Rattle.declarations.specs.declared.MessageLine.{MessageLine}
 use Rattle.declarations.specs.declared.EventLine.{EventLine}
-use Rattle.declarations.specs.declared.StateLine.{StateLine}
 
 -- ---- a message's line, while only messages were read
 
@@ -42,15 +40,3 @@ pub record EventTold (line : List ℕ) (messages : List MessageRow) (message-cou
   pub told : (t : Tables) → MessagesEvents t messages message-count events count → Refuses t line (r .number)
   pub row : r .number ≡ 0 → r .row ≡ eventOf (split 9 line)
   pub cleared : ¬ (r .number ≡ 0) → r .row ≡ noEvent
-
--- ---- a state's line, while no cell was read
-
-pub record States (t : Tables) (states : List StateRow) (count : ℕ) : Type 0 where
-  pub rows : t .states ≡ states
-  pub many : t .«state_count» ≡ count
-  pub no-cell : t .«cell_count» ≡ 0
-
-pub record StateTold (line : List ℕ) (states : List StateRow) (count : ℕ) (r : StateLine) : Type 0 where
-  pub told : (t : Tables) → States t states count → Refuses t line (r .number)
-  pub row : r .number ≡ 0 → r .row ≡ stateOf (split 9 line)
-  pub cleared : ¬ (r .number ≡ 0) → r .row ≡ noState

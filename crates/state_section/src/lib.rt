@@ -26,7 +26,7 @@ pub fn read_states(text: &[u8], from: usize, first: usize, given: Tables) -> Rea
         }
         let rows = t.states;
         let count = t.state_count;
-        let r = declarations::state_line(&text[at..e], f, rows, count);
+        let r = state_lines::state_line(&text[at..e], f, rows, count);
         if r.number != 0 {
             return whole::refused_at(r.number, line);
         }

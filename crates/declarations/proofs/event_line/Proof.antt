@@ -4,7 +4,8 @@ use mathlib.Core.Path.{refl, sym, _∙_}
 use borrow.Author.Tests.{not-true, not-false, le-leb, lt-leb}
 use Rattle.records.proofs.Numbers.{never}
 use Rattle.shapes.proofs.Shaped.{event-count}
-use Rattle.declarations.proofs.Rows.{four-shape, four-name, four-twice, four-full, four-none, either-message, either-event, event-row, event-refused, event-taken}
+use Rattle.named_fields.proofs.Declares.{four-shape, four-name, four-twice, four-full, four-none}
+use Rattle.declarations.proofs.Rows.{either-message, either-event, event-row, event-refused, event-taken}
 use borrow.Author.Needs.{needs}
 use Rattle.declarations.proofs.event_line.Statement.{statement}
 use Rattle.declarations.proofs.event_line.Tie as tie

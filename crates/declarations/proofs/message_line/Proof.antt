@@ -4,7 +4,8 @@ use mathlib.Core.Path.{refl, sym, _∙_}
 use borrow.Author.Tests.{not-true, not-false, le-leb, lt-leb}
 use Rattle.records.proofs.Numbers.{never}
 use Rattle.shapes.proofs.Shaped.{message-is, message-nothing, message-count}
-use Rattle.declarations.proofs.Rows.{four-shape, four-name, four-twice, four-full, four-none, message-row, message-refused, message-taken}
+use Rattle.named_fields.proofs.Declares.{four-shape, four-name, four-twice, four-full, four-none}
+use Rattle.declarations.proofs.Rows.{message-row, message-refused, message-taken}
 use borrow.Author.Needs.{needs}
 use Rattle.declarations.proofs.message_line.Statement.{statement}
 use Rattle.declarations.proofs.message_line.Tie as tie

@@ -1,9 +1,9 @@
--- `declarations::name_fits` meets its contract.
+-- `named_fields::name_fits` meets its contract.
 use mathlib.Core.Path.{ap, _∙_}
 use borrow.Author.Needs.{needs}
 use Rattle.text.specs.Name.{nameRule}
-use Rattle.declarations.proofs.name_fits.Statement.{statement}
-use Rattle.declarations.proofs.name_fits.Tie as tie
+use Rattle.named_fields.proofs.name_fits.Statement.{statement}
+use Rattle.named_fields.proofs.name_fits.Tie as tie
 
 field-at-requires : tie.Need-field-at-requires
 field-at-requires c κs = search needs

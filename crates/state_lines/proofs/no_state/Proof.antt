@@ -1,8 +1,8 @@
--- `declarations::no_state` meets its contract.
+-- `state_lines::no_state` meets its contract.
 use mathlib.Core.Path.{refl}
 use borrow.Author.Needs.{needs}
-use Rattle.declarations.proofs.no_state.Statement.{statement}
-use Rattle.declarations.proofs.no_state.Tie as tie
+use Rattle.state_lines.proofs.no_state.Statement.{statement}
+use Rattle.state_lines.proofs.no_state.Tie as tie
 
 no-name-requires : tie.Need-no-name-requires
 no-name-requires c κs = search needs

@@ -1,9 +1,9 @@
--- `declarations::state_declared` meets its contract.
+-- `state_lines::state_declared` meets its contract.
 use mathlib.Core.Path.{sym, _∙_}
-use Rattle.declarations.proofs.Named.{state-found, state-missing}
+use Rattle.state_lines.proofs.Named.{state-found, state-missing}
 use borrow.Author.Needs.{needs}
-use Rattle.declarations.proofs.state_declared.Statement.{statement}
-use Rattle.declarations.proofs.state_declared.Tie as tie
+use Rattle.state_lines.proofs.state_declared.Statement.{statement}
+use Rattle.state_lines.proofs.state_declared.Tie as tie
 
 field-at-requires : tie.Need-field-at-requires
 field-at-requires c κs = search needs

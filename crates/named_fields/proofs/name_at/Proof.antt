@@ -1,12 +1,12 @@
--- `declarations::name_at` meets its contract.
+-- `named_fields::name_at` meets its contract.
 use native.Mathlib.Omega.{arith}
 use mathlib.Core.Path.{ap, _∙_}
 use lib.ListN.{length}
 use Rattle.text.specs.Name.{nameOf}
 use Rattle.text.proofs.NameLaws.{rule-length}
 use borrow.Author.Needs.{needs}
-use Rattle.declarations.proofs.name_at.Statement.{statement}
-use Rattle.declarations.proofs.name_at.Tie as tie
+use Rattle.named_fields.proofs.name_at.Statement.{statement}
+use Rattle.named_fields.proofs.name_at.Tie as tie
 
 field-at-requires : tie.Need-field-at-requires
 field-at-requires c κs = search needs

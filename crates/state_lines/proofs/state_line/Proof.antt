@@ -1,17 +1,18 @@
--- `declarations::state_line` meets its contract.
+-- `state_lines::state_line` meets its contract.
 use native.Mathlib.Omega.{arith}
 use mathlib.Core.Path.{refl, sym, ap, _∙_}
 use borrow.Author.Tests.{not-true, not-false, le-leb, lt-leb}
 use Rattle.text.specs.Parts.{split}
 use Rattle.tables.specs.declared.Controller.{Controller}
 use Rattle.records.specs.Line.{field}
-use Rattle.declarations.specs.Known.{stateDeclared}
+use Rattle.state_lines.specs.Known.{stateDeclared}
 use Rattle.records.proofs.Numbers.{never}
 use Rattle.shapes.proofs.Shaped.{state-is, state-nothing, state-count}
-use Rattle.declarations.proofs.Rows.{four-shape, four-name, four-twice, four-full, four-none, state-row, state-refused, state-taken}
+use Rattle.named_fields.proofs.Declares.{four-shape, four-name, four-twice, four-full, four-none}
+use Rattle.state_lines.proofs.Rows.{state-row, state-refused, state-taken}
 use borrow.Author.Needs.{needs}
-use Rattle.declarations.proofs.state_line.Statement.{statement}
-use Rattle.declarations.proofs.state_line.Tie as tie
+use Rattle.state_lines.proofs.state_line.Statement.{statement}
+use Rattle.state_lines.proofs.state_line.Tie as tie
 
 state-shape-requires : tie.Need-state-shape-requires
 state-shape-requires c κs = search needs
