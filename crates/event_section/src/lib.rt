@@ -27,7 +27,7 @@ pub fn read_events(text: &[u8], from: usize, first: usize, given: Tables) -> Rea
         let messages = t.messages;
         let rows = t.events;
         let count = t.event_count;
-        let r = declarations::event_line(&text[at..e], f, messages, t.message_count, rows, count);
+        let r = event_lines::event_line(&text[at..e], f, messages, t.message_count, rows, count);
         if r.number != 0 {
             return whole::refused_at(r.number, line);
         }

@@ -26,7 +26,7 @@ pub fn read_messages(text: &[u8], from: usize, first: usize, given: Tables) -> R
         }
         let rows = t.messages;
         let count = t.message_count;
-        let r = declarations::message_line(&text[at..e], f, rows, count);
+        let r = message_lines::message_line(&text[at..e], f, rows, count);
         if r.number != 0 {
             return whole::refused_at(r.number, line);
         }

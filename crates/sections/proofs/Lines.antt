@@ -12,12 +12,13 @@ use Rattle.text.specs.Words.{messageWord, eventWord, stateWord, cellWord}
 use Rattle.papers.proofs.Walk.{walk-next}
 use Rattle.tables.specs.declared.Tables.{Tables}
 use Rattle.tables.specs.Tables.{withMessage, withEvent, withState, withCell}
-use Rattle.declarations.specs.declared.MessageLine.{MessageLine}
-use Rattle.declarations.specs.declared.EventLine.{EventLine}
+use Rattle.message_lines.specs.declared.MessageLine.{MessageLine}
+use Rattle.event_lines.specs.declared.EventLine.{EventLine}
 use Rattle.state_lines.specs.declared.StateLine.{StateLine}
 use Rattle.records.specs.Line.{Line, says, Section, message, event, state, cell, unknown, sectionOf, messageOf, eventOf, stateOf, cellOf}
 use Rattle.records.specs.Told.{Refuses}
-use Rattle.declarations.specs.Told.{MessageTold, EventTold}
+use Rattle.message_lines.specs.Told.{MessageTold}
+use Rattle.event_lines.specs.Told.{EventTold}
 use Rattle.state_lines.specs.Told.{StateTold}
 use Rattle.records.specs.Checks.{shaped, laterRead}
 use Rattle.late_lines.specs.Place.{misplacedNumber, Misplaced}
