@@ -20,7 +20,9 @@ use Rattle.protocol.specs.Reading.{readProtocol}
 use Rattle.mapping.specs.declared.Mapped.{Mapped}
 use Rattle.answers.specs.Answers.{refusedAt, Listed}
 use Rattle.plan_listing.specs.PlanText.{firstMessages}
-use Rattle.judge_listing.specs.JudgeText.{fitText, unfitText, wordIn, pickWord, stepsFrom, stepsOf}
+use Rattle.fit_listing.specs.FitText.{fitText}
+use Rattle.step_lines.specs.StepLine.{pickWord}
+use Rattle.judge_listing.specs.JudgeText.{unfitText, wordIn, stepsFrom, stepsOf}
 use Rattle.judge_listing.specs.Steps.{GivenWalk, walkSteps}
 use Rattle.verdicts.specs.declared.Judged.{Judged as Found}
 use Rattle.verdicts.specs.Verdicts.{mappingOf, WaitsOf, Fitting, Unfitting, JudgedIs}

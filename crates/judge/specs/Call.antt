@@ -14,7 +14,8 @@ use Rattle.mapping.specs.declared.Mapped.{Mapped}
 use Rattle.mapping.specs.Reading.{readMapping}
 use Rattle.answers.specs.declared.Answer.{Answer}
 use Rattle.answers.specs.Answers.{Refused, Listed, packedAnswer}
-use Rattle.judge_listing.specs.JudgeText.{ShownStep, fitText, unfitText}
+use Rattle.fit_listing.specs.FitText.{fitText}
+use Rattle.judge_listing.specs.JudgeText.{ShownStep, unfitText}
 use Rattle.verdicts.specs.Verdicts.{mappingOf}
 
 -- ---- the steps that are shown

@@ -14,7 +14,8 @@ use Rattle.mapping.specs.Text.{mappingText}
 use Rattle.answers.specs.declared.Answer.{Answer}
 use Rattle.answers.specs.Answers.{Listed}
 use Rattle.plan_listing.specs.PlanText.{classThree, classTwo}
-use Rattle.judge_listing.specs.JudgeText.{ShownStep, fitText, unfitText}
+use Rattle.fit_listing.specs.FitText.{fitText}
+use Rattle.judge_listing.specs.JudgeText.{ShownStep, unfitText}
 use Rattle.verdicts.specs.Verdicts.{mappingOf}
 use Rattle.plan.specs.Call.{Call as PlanCall}
 use Rattle.judge.specs.Call.{mappedFor, Call as JudgeCall}

@@ -18,7 +18,7 @@ fn judge_tables(t: Tables, networks: [Network; 32], out: &mut [u8]) -> Answer
 {
     let found = judgement::judge_of(t, networks);
     if found.length == 0 {
-        return judge_listing::fit_listing(out);
+        return fit_listing::fit_listing(out);
     }
     let messages = t.messages;
     let cycle = found.cycle;

@@ -1,17 +1,13 @@
--- What each contract allows is one answer: two results that meet it are equal, and so is every lent byte.
+-- What the contract allows is one answer: two results that meet it are equal, and so is every lent byte.
 use mathlib.Core.List.{List}
 use Prim.Native.Nat.{ℕ}
-use lib.ListN.{length}
 use Rattle.determined.specs.Determined.{DeterminesLent}
 use Rattle.rules.specs.declared.Message.{Message}
 use Rattle.tables.specs.declared.MessageRow.{MessageRow}
 use Rattle.answers.specs.Answers.{Listed}
-use Rattle.judge_listing.specs.JudgeText.{fitText, unfitText}
+use Rattle.judge_listing.specs.JudgeText.{unfitText}
 use Rattle.judge_listing.specs.Steps.{walkSteps}
 use Rattle.answers.proofs.Determined.{listed-determined}
-
-pub fit-listing-determined : (old : List ℕ) → DeterminesLent (Listed fitText old)
-fit-listing-determined = listed-determined fitText
 
 pub unfit-listing-determined : (messages : List MessageRow) (cycle : List Message) (length : ℕ) (waits old : List ℕ)
     → DeterminesLent (Listed (unfitText messages (walkSteps waits length cycle)) old)

@@ -1,5 +1,4 @@
 pub mod Places
-pub mod Chains
 pub mod StepLines
 pub mod Determined
 pub mod Longest

@@ -1,5 +1,4 @@
--- How long a judgement's listing can be.
-use mathlib.Core.Path.{refl}
+-- How long the listing of an unfit mapping can be.
 use mathlib.Core.List.{List, [], _∷_}
 use Prim.Native.Nat.{_*_, _≤_}
 use native.Mathlib.Omega.{arith}
@@ -7,14 +6,11 @@ use lib.ListN.{length, length-append}
 use Rattle.rules.specs.Plan.{Word, waits, queues}
 use Rattle.tables.specs.declared.MessageRow.{MessageRow}
 use Rattle.plan_listing.specs.PlanText.{nameAt}
-use Rattle.judge_listing.specs.JudgeText.{ShownStep, stepLine, wordText, verdictHead, fitText, stepText, stepTexts}
+use Rattle.step_lines.specs.StepLine.{stepLine, wordText}
+use Rattle.judge_listing.specs.JudgeText.{ShownStep, stepText, stepTexts}
 use Rattle.plan_listing.specs.Lengths.{ShortNames}
-use Rattle.judge_listing.specs.Longest.{FitLength, LongestUnfit}
+use Rattle.judge_listing.specs.Longest.{LongestUnfit}
 use Rattle.judge_listing.proofs.StepLines.{unfit-length}
-
-pub fit-length : FitLength
-unfolding fitText verdictHead
-fit-length = refl
 
 word-short : (w : Word) → length (wordText w) ≤ 6
 word-short waits = omega arith

@@ -6,12 +6,11 @@ use mathlib.Core.List.{List, [], _∷_, _++_, append-assoc, append-nil}
 use Prim.Native.Nat.{ℕ, _+_, _-_, _≤_, _<_}
 use native.Mathlib.Omega.{arith}
 use native.Mathlib.Numerals.{add-one}
-use lib.ListN.{length, take, drop, getD, length-append, length-take, take-append-drop}
+use lib.ListN.{length, take, drop, getD, length-append, take-append-drop}
 use lib.Seq.{take-suc, take-all}
 use Rattle.rules.specs.Rules.{MessageNo}
 use Rattle.rules.specs.Plan.{Word, queues}
 use Rattle.rows.specs.Rows.{Bit}
-use Rattle.text.specs.declared.Name.{Name}
 use Rattle.text.specs.Name.{nameText}
 use Rattle.text.specs.Words.{unfitWord}
 use Rattle.text.specs.Written.{Wrote, Pasted}
@@ -21,15 +20,12 @@ use Rattle.tables.specs.declared.MessageRow.{MessageRow}
 use Rattle.tables.specs.Tables.{noMessage}
 use Rattle.text.proofs.Parts.{getD-within}
 use Rattle.plan_listing.specs.PlanText.{nameAt}
-use Rattle.judge_listing.specs.declared.Step.{Step}
-use Rattle.judge_listing.specs.JudgeText.{ShownStep, stepsOf, stepLine, verdictHead, unfitText, stepText, stepTexts, wordText, pickWord, wordIn}
-use Rattle.judge_listing.specs.Steps.{nextPlace, stepAt, lineOf}
+use Rattle.fit_listing.specs.FitText.{verdictHead}
+use Rattle.step_lines.specs.declared.Step.{Step}
+use Rattle.step_lines.specs.StepLine.{stepLine, wordText, pickWord, lineOf}
+use Rattle.judge_listing.specs.JudgeText.{ShownStep, stepsOf, unfitText, stepText, stepTexts, wordIn}
+use Rattle.judge_listing.specs.Steps.{nextPlace, stepAt}
 use Rattle.judge_listing.proofs.Places.{steps-length, steps-at, bit-test}
-
--- the header's line, and the verdict's
-pub verdict-length : (v : List ℕ) → length (verdictHead v) ≡ 12 + length v
-unfolding verdictHead
-verdict-length v = simp length-append (omega arith)
 
 -- the name in the row of a message
 pub name-at : (rows : List MessageRow) (k m : ℕ) → k ≡ m → m < length rows
@@ -52,13 +48,6 @@ step-line rows waits l i from to f t s pf pt ef et nf nt b =
     ∙ ap₂ (λ (f t : ℕ). stepLine (nameAt rows f) (wordText (wordIn waits f t)) (nameAt rows t)) ef et
 
 -- ---- lengths
-
-pub name-short : (n : Name) → length (n .bytes) ≡ 24 → length (nameText n) ≤ 24
-name-short n e = omega (arith, length-take (n .length) (n .bytes))
-
-pub line-length : (s : Step) → length (lineOf s) ≡ 8 + length (nameText (s .from)) + length (wordText (pickWord (s .waits))) + length (nameText (s .to))
-unfolding lineOf stepLine
-line-length s = simp length-append (omega arith)
 
 pub unfit-length : (rows : List MessageRow) (steps : List ShownStep) → length (unfitText rows steps) ≡ 17 + length (stepTexts rows steps)
 unfolding unfitText verdictHead

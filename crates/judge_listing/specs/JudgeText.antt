@@ -1,15 +1,16 @@
--- The listing of a judgement (01-scope.md, "Two listings, whole").
+-- The listing of a judgement (01-scope.md, "Two listings, whole"), for an unfit mapping.
 -- "It prints `vn-judge>1`, then `fit`, or `unfit` and a line `step` name `waits` or `queues` name for each step."
 use Prim.Native.Nat.{ℕ, _/_, _%_, _^_}
-use mathlib.Core.Bool.{Bool, true, false}
 use mathlib.Core.List.{List, [], _∷_, _++_}
 use lib.ListN.{getD}
 use lib.Dec.{eqb}
 use Rattle.rules.specs.Rules.{MessageNo}
-use Rattle.rules.specs.Plan.{Word, waits, queues}
-use Rattle.text.specs.Words.{judgeHeader, fitWord, unfitWord, stepWord, waitsWord, queuesWord, tab, newline}
+use Rattle.rules.specs.Plan.{Word}
+use Rattle.text.specs.Words.{unfitWord}
 use Rattle.tables.specs.declared.MessageRow.{MessageRow}
 use Rattle.plan_listing.specs.PlanText.{nameAt}
+use Rattle.fit_listing.specs.FitText.{verdictHead}
+use Rattle.step_lines.specs.StepLine.{stepLine, wordText, pickWord}
 
 -- ---- the steps of a closed walk
 
@@ -31,17 +32,6 @@ stepsOf w (a ∷ l) = stepsFrom w a (l ++ (a ∷ []))
 
 -- ---- the listing
 
-abbrev pub wordText : Word → List ℕ
-wordText waits = waitsWord
-wordText queues = queuesWord
-
--- A word between its tabs.
-abbrev pub between : List ℕ → List ℕ
-between word = (tab ++ word) ++ tab
-
-unfoldable pub stepLine : List ℕ → List ℕ → List ℕ → List ℕ
-stepLine from word to = ((((stepWord ++ tab) ++ from) ++ between word) ++ to) ++ newline
-
 unfoldable pub stepText : List MessageRow → ShownStep → List ℕ
 stepText rows s = stepLine (nameAt rows (s .from)) (wordText (s .word)) (nameAt rows (s .to))
 
@@ -49,21 +39,10 @@ unfoldable pub stepTexts : List MessageRow → List ShownStep → List ℕ
 stepTexts rows [] = []
 stepTexts rows (s ∷ ss) = stepText rows s ++ stepTexts rows ss
 
--- The header and the verdict.
-unfoldable pub verdictHead : List ℕ → List ℕ
-verdictHead verdict = ((judgeHeader ++ newline) ++ verdict) ++ newline
-
-unfoldable pub fitText : List ℕ
-fitText = verdictHead fitWord
-
 unfoldable pub unfitText : List MessageRow → List ShownStep → List ℕ
 unfitText rows steps = verdictHead unfitWord ++ stepTexts rows steps
 
 -- ---- words by the rows of waits
-
-abbrev pub pickWord : Bool → Word
-pickWord true = waits
-pickWord false = queues
 
 -- The word of the step from m to k: waits where bit k of row m is set.
 unfoldable pub wordIn : List ℕ → MessageNo → MessageNo → Word

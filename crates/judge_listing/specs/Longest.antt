@@ -1,15 +1,10 @@
--- "Every program lends room for the longest answer within the limits." How long a judgement's listing can be.
+-- "Every program lends room for the longest answer within the limits." How long the listing of an unfit mapping can be.
 use Prim.Native.Nat.{_≤_}
-use mathlib.Core.Path.{_≡_}
 use mathlib.Core.List.{List}
 use lib.ListN.{length}
 use Rattle.tables.specs.declared.MessageRow.{MessageRow}
 use Rattle.plan_listing.specs.Lengths.{ShortNames}
-use Rattle.judge_listing.specs.JudgeText.{ShownStep, fitText, unfitText}
-
--- A fit mapping takes 15 bytes.
-abbrev pub FitLength : Type 0
-FitLength = length fitText ≡ 15
+use Rattle.judge_listing.specs.JudgeText.{ShownStep, unfitText}
 
 -- The header and `unfit` take 17 bytes, each of at most 32 steps at most 62.
 abbrev pub LongestUnfit : Type 0

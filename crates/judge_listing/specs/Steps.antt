@@ -1,4 +1,4 @@
--- The steps of a closed walk by their places, and a step as the code holds it.
+-- The steps of a closed walk by their places.
 use Prim.Native.Nat.{ℕ, _+_, _<_, _≤_}
 use mathlib.Core.Bool.{cond}
 use mathlib.Core.List.{List}
@@ -7,10 +7,8 @@ use lib.Dec.{ltb}
 use Rattle.rules.specs.declared.Message.{Message}
 use Rattle.rules.specs.Rules.{MessageNo}
 use Rattle.rules.specs.Plan.{Word}
-use Rattle.text.specs.Name.{nameText}
 use Rattle.plan_listing.specs.PlanText.{firstMessages}
-use Rattle.judge_listing.specs.declared.Step.{Step}
-use Rattle.judge_listing.specs.JudgeText.{ShownStep, stepsOf, stepLine, wordText, pickWord, wordIn}
+use Rattle.judge_listing.specs.JudgeText.{ShownStep, stepsOf, wordIn}
 
 -- A closed walk as it is given: 1 to 32 messages, each with a row in the tables.
 pub record GivenWalk (length : ℕ) (cycle : List Message) : Type 0 where
@@ -33,7 +31,3 @@ stepOf w a b = record { from = a; word = w a b; to = b }
 -- The step at place i of the closed walk l.
 unfoldable pub stepAt : (MessageNo → MessageNo → Word) → List MessageNo → ℕ → ShownStep
 stepAt w l i = stepOf w (getD l i 0) (getD l (nextPlace (length l) i) 0)
-
--- The line of a step that holds its names.
-unfoldable pub lineOf : Step → List ℕ
-lineOf s = stepLine (nameText (s .from)) (wordText (pickWord (s .waits))) (nameText (s .to))

@@ -1,24 +1,19 @@
-// The listing of a judgement.
+// The listing of an unfit mapping.
 ghost use mathlib.Core.Path.{_≡_};
 ghost use Prim.Native.Nat.{_+_, _<_, _≤_};
 ghost use lib.ListN.{length};
 ghost use Rattle.text.specs.Name.{nameText};
-ghost use Rattle.text.specs.Written.{Wrote, Pasted};
+ghost use Rattle.text.specs.Written.{Pasted};
 ghost use Rattle.plan_listing.specs.PlanText.{nameAt, firstMessages};
 ghost use Rattle.answers.specs.Answers.{Listed};
-ghost use Rattle.judge_listing.specs.JudgeText.{fitText, unfitText, stepText, stepTexts, between, wordText, pickWord, wordIn};
-ghost use Rattle.judge_listing.specs.Steps.{GivenWalk, walkSteps, nextPlace, stepAt, lineOf};
+ghost use Rattle.step_lines.specs.StepLine.{lineOf};
+ghost use Rattle.judge_listing.specs.JudgeText.{unfitText, stepText, stepTexts, wordIn};
+ghost use Rattle.judge_listing.specs.Steps.{GivenWalk, walkSteps, nextPlace, stepAt};
 use answers::Answer;
 use rules::Message;
+use step_lines::Step;
 use tables::MessageRow;
 use text::Name;
-
-// A step as its line shows it: two names, and whether the word between them is `waits`.
-struct Step {
-    from: Name,
-    waits: bool,
-    to: Name,
-}
 
 // The name of a message.
 fn name_of(messages: [MessageRow; 32], m: Message) -> Name
@@ -61,25 +56,6 @@ fn step_at(
     }
 }
 
-// How many bytes the step's word has.
-fn word_length(waits: bool) -> usize
-    ensures { λ r. ⌜ (r ≡ length (wordText (pickWord waits))) × (r ≤ 6) ⌝ }
-{
-    if waits {
-        return 5;
-    }
-    6
-}
-
-// How many bytes the step's line has.
-fn step_length(step: Step) -> usize
-    ensures { λ r. ⌜ (r ≡ length (lineOf step)) × (r ≤ 62) ⌝ }
-{
-    let from = step.from;
-    let to = step.to;
-    8 + naming::name_length(from) + word_length(step.waits) + naming::name_length(to)
-}
-
 // How many bytes the listing of an unfit mapping has.
 fn unfit_length(
     messages: [MessageRow; 32],
@@ -93,35 +69,10 @@ fn unfit_length(
     let mut n = 17;
     let mut counted = 0;
     while counted < count {
-        n += step_length(step_at(messages, cycle, count, waits, counted));
+        n += step_lines::step_length(step_at(messages, cycle, count, waits, counted));
         counted += 1;
     }
     n
-}
-
-// The step's word between its tabs, at a place of out.
-fn more_word(out: &mut [u8], at: usize, waits: bool) -> usize
-    requires { ⌜ at + length (between (wordText (pickWord waits))) ≤ length (now out) ⌝ }
-    ensures { λ r. ⌜ Pasted (between (wordText (pickWord waits))) at (now (out .entry)) (now (out .exit)) r ⌝ }
-{
-    if waits {
-        return writers::more(out, at, b"\twaits\t");
-    }
-    writers::more(out, at, b"\tqueues\t")
-}
-
-// The step's line at the front of out.
-fn put_step(out: &mut [u8], step: Step) -> usize
-    requires { ⌜ length (lineOf step) ≤ length (now out) ⌝ }
-    ensures { λ r. ⌜ Wrote (lineOf step) (now (out .entry)) (now (out .exit)) r ⌝ }
-{
-    let from = step.from;
-    let to = step.to;
-    let a = text::put(out, b"step\t");
-    let b = writers::more_name(out, a, from);
-    let c = more_word(out, b, step.waits);
-    let d = writers::more_name(out, c, to);
-    writers::more(out, d, b"\n")
 }
 
 // The lines of all steps, from a place of out on. Each is lent the rest of the output.
@@ -140,21 +91,10 @@ fn more_steps(
     let mut written = 0;
     while written < count {
         let step = step_at(messages, cycle, count, waits, written);
-        at += put_step(&mut out[at..], step);
+        at += step_lines::put_step(&mut out[at..], step);
         written += 1;
     }
     at
-}
-
-// The listing of a fit mapping, if there is room for it.
-pub fn fit_listing(out: &mut [u8]) -> Answer
-    ensures { λ r. ⌜ Listed fitText (now (out .entry)) (now (out .exit)) r ⌝ }
-{
-    if out.len() < 15 {
-        return answers::no_room(15);
-    }
-    let end = text::put(out, b"vn-judge\t1\nfit\n");
-    answers::listed(end)
 }
 
 // The listing of an unfit mapping, if there is room for it: the steps of the shown cycle. The rows of waits tell each step's word.

@@ -1,13 +1,13 @@
--- `judge_listing::fit_listing` meets its contract.
+-- `fit_listing::fit_listing` meets its contract.
 use mathlib.Core.Path.{refl}
 use native.Mathlib.Omega.{arith}
 use Rattle.text.specs.Words.{fitWord}
-use Rattle.judge_listing.specs.JudgeText.{verdictHead, fitText}
+use Rattle.fit_listing.specs.FitText.{verdictHead, fitText}
 use Rattle.answers.proofs.Listings.{listing-written}
-use Rattle.judge_listing.proofs.StepLines.{verdict-length}
+use Rattle.fit_listing.proofs.Lengths.{verdict-length}
 use borrow.Author.Needs.{needs}
-use Rattle.judge_listing.proofs.fit_listing.Statement.{statement}
-use Rattle.judge_listing.proofs.fit_listing.Tie as tie
+use Rattle.fit_listing.proofs.fit_listing.Statement.{statement}
+use Rattle.fit_listing.proofs.fit_listing.Tie as tie
 
 no-room-requires : tie.Need-no-room-requires
 no-room-requires c κs = search needs

@@ -1,11 +1,11 @@
--- `judge_listing::word_length` meets its contract.
+-- `step_lines::word_length` meets its contract.
 use mathlib.Core.Path.{ap}
 use mathlib.Core.Bool.{Bool}
 use lib.ListN.{length}
 use native.Mathlib.Omega.{arith}
-use Rattle.judge_listing.specs.JudgeText.{wordText, pickWord}
-use Rattle.judge_listing.proofs.word_length.Statement.{statement}
-use Rattle.judge_listing.proofs.word_length.Tie as tie
+use Rattle.step_lines.specs.StepLine.{wordText, pickWord}
+use Rattle.step_lines.proofs.word_length.Statement.{statement}
+use Rattle.step_lines.proofs.word_length.Tie as tie
 
 returns : tie.Need-returns
 returns c = omega (arith, ap (λ (b : Bool). length (wordText (pickWord b))) (c .if1 .taken))

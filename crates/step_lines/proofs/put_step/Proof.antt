@@ -1,16 +1,15 @@
--- `judge_listing::put_step` meets its contract.
+-- `step_lines::put_step` meets its contract.
 use mathlib.Core.List.{List, _++_}
 use Prim.Native.Nat.{ℕ, _≤_}
 use lib.ListN.{length}
 use Rattle.plan_listing.proofs.Growing.{front-room}
 use Rattle.text.specs.Name.{nameText}
 use Rattle.text.specs.Words.{stepWord, tab, newline}
-use Rattle.judge_listing.specs.JudgeText.{stepLine, between, wordText, pickWord}
-use Rattle.judge_listing.specs.Steps.{lineOf}
-use Rattle.judge_listing.proofs.Chains.{first-room, second-room, third-room, fourth-room, fifth-room, all-five}
+use Rattle.step_lines.specs.StepLine.{stepLine, between, wordText, pickWord, lineOf}
+use Rattle.step_lines.proofs.Chains.{first-room, second-room, third-room, fourth-room, fifth-room, all-five}
 use borrow.Author.Needs.{needs}
-use Rattle.judge_listing.proofs.put_step.Statement.{statement}
-use Rattle.judge_listing.proofs.put_step.Tie as tie
+use Rattle.step_lines.proofs.put_step.Statement.{statement}
+use Rattle.step_lines.proofs.put_step.Tie as tie
 
 -- the line without its end
 abbrev Front : tie.Start → List ℕ

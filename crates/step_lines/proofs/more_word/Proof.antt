@@ -1,12 +1,12 @@
--- `judge_listing::more_word` meets its contract.
+-- `step_lines::more_word` meets its contract.
 use mathlib.Core.Path.{subst}
 use mathlib.Core.Bool.{Bool}
 use Prim.Native.Nat.{_+_, _≤_}
 use lib.ListN.{length}
-use Rattle.judge_listing.specs.JudgeText.{between, wordText, pickWord}
+use Rattle.step_lines.specs.StepLine.{between, wordText, pickWord}
 use borrow.Author.Needs.{needs}
-use Rattle.judge_listing.proofs.more_word.Statement.{statement}
-use Rattle.judge_listing.proofs.more_word.Tie as tie
+use Rattle.step_lines.proofs.more_word.Statement.{statement}
+use Rattle.step_lines.proofs.more_word.Tie as tie
 
 slice-aggregate-more : tie.Need-slice-aggregate-more
 slice-aggregate-more c = search needs

@@ -1,12 +1,12 @@
--- `judge_listing::step_length` meets its contract.
+-- `step_lines::step_length` meets its contract.
 use Prim.Native.Nat.{_≤_}
 use lib.ListN.{length}
 use native.Mathlib.Omega.{arith}
 use Rattle.text.specs.Name.{nameText}
-use Rattle.judge_listing.proofs.StepLines.{name-short, line-length}
+use Rattle.step_lines.proofs.Lengths.{name-short, line-length}
 use borrow.Author.Needs.{needs}
-use Rattle.judge_listing.proofs.step_length.Statement.{statement}
-use Rattle.judge_listing.proofs.step_length.Tie as tie
+use Rattle.step_lines.proofs.step_length.Statement.{statement}
+use Rattle.step_lines.proofs.step_length.Tie as tie
 
 -- a name keeps 24 bytes
 from-short : (c : tie.Start) → length (nameText (c .args .step .from)) ≤ 24
