@@ -10,9 +10,6 @@ use Rattle.determined.specs.Determined.{Determines, DeterminesLent}
 use Rattle.determined.proofs.Equal.{equal}
 use Rattle.answers.specs.declared.Answer.{Answer}
 use Rattle.answers.specs.Answers.{refusedAt, noRoom, finished, packedAnswer, Refused, Listed}
-use Rattle.text.specs.Written.{Wrote}
-use Rattle.text.proofs.Determined.{wrote-determined}
-use Rattle.answers.specs.RefusedText.{refusedText}
 
 pub refused-determined : (number paper line : ℕ) → Determines (λ (r : Answer). r ≡ refusedAt number paper line)
 refused-determined number paper line = equal _
@@ -25,9 +22,6 @@ finished-determined n = equal _
 
 pub packed-determined : (a : Answer) → Determines (λ (r : ℕ). r ≡ packedAnswer a)
 packed-determined a = equal _
-
-pub put-refused-determined : (number paper line : ℕ) (old : List ℕ) → DeterminesLent (Wrote (refusedText number paper line) old)
-put-refused-determined number paper line = wrote-determined (refusedText number paper line)
 
 -- ---- refusals
 

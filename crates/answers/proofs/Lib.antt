@@ -1,5 +1,3 @@
 pub mod Listings
-mod RefusedLaws
 pub mod Packing
 pub mod Determined
-pub mod RefusedLength

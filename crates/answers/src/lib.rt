@@ -1,9 +1,5 @@
 // What the calls on texts answer, and how a host gets it as one number.
-ghost use Prim.Native.Nat.{_+_, _≤_};
 ghost use mathlib.Core.Path.{_≡_};
-ghost use lib.ListN.{length};
-ghost use Rattle.text.specs.Written.{Wrote, Pasted};
-ghost use Rattle.answers.specs.RefusedText.{tabbedNumber, refusedText};
 ghost use Rattle.answers.specs.Answers.{refusedAt, noRoom, finished, Small, shownLength, packedAnswer};
 
 // The answer of a call on texts. Every number is 0 unless the paper says otherwise.
@@ -79,25 +75,4 @@ pub fn packed(a: Answer) -> u64
     let line = a.line as u64;
     let length = shown_length(a) as u64;
     number + paper * 256 + line * 65536 + length * 4294967296
-}
-
-// A tab and a number, at a place of out.
-fn more_tabbed(out: &mut [u8], at: usize, n: u32) -> usize
-    requires { ⌜ at + length (tabbedNumber n) ≤ length (now out) ⌝ }
-    ensures { λ r. ⌜ Pasted (tabbedNumber n) at (now (out .entry)) (now (out .exit)) r ⌝ }
-{
-    let b = writers::more(out, at, b"\t");
-    writers::more_number(out, b, n)
-}
-
-// What a program prints on a refusal, at the front of out.
-pub fn put_refused(out: &mut [u8], number: u8, paper: u8, line: u32) -> usize
-    requires { ⌜ length (refusedText number paper line) ≤ length (now out) ⌝ }
-    ensures { λ r. ⌜ Wrote (refusedText number paper line) (now (out .entry)) (now (out .exit)) r ⌝ }
-{
-    let a = text::put(out, b"refused");
-    let b = more_tabbed(out, a, number as u32);
-    let c = more_tabbed(out, b, paper as u32);
-    let d = more_tabbed(out, c, line);
-    writers::more(out, d, b"\n")
 }

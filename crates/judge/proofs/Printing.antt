@@ -17,8 +17,8 @@ use Rattle.bounds.specs.Bounds.{Low}
 use Rattle.bounds.proofs.Bounds.{protocol-low, mapping-low}
 use Rattle.answers.specs.declared.Answer.{Answer}
 use Rattle.answers.specs.Answers.{Refused}
-use Rattle.answers.specs.RefusedText.{refusedText}
-use Rattle.answers.proofs.RefusedLength.{refused-short}
+use Rattle.refused_text.specs.RefusedText.{refusedText}
+use Rattle.refused_text.proofs.RefusedLength.{refused-short}
 use Rattle.verdicts.specs.Verdicts.{mappingOf}
 use Rattle.plan.proofs.Printing.{listed-wrote, refused-parts}
 use Rattle.judge.specs.Call.{Judged, mappedFor, Call}

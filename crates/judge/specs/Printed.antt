@@ -6,7 +6,7 @@ use mathlib.Core.List.{List}
 use Rattle.text.specs.Written.{Wrote}
 use Rattle.tables.specs.declared.Tables.{Tables}
 use Rattle.protocol.specs.Reading.{readProtocol}
-use Rattle.answers.specs.RefusedText.{refusedText}
+use Rattle.refused_text.specs.RefusedText.{refusedText}
 use Rattle.verdicts.specs.Verdicts.{mappingOf}
 use Rattle.judge.specs.Call.{JudgeListing, mappedFor}
 

@@ -71,5 +71,5 @@ pub fn print_judgement(protocol: &[u8], mapping: &[u8], out: &mut [u8]) -> usize
         return a.length;
     }
     let line = a.line as u32;
-    answers::put_refused(out, a.number, a.paper, line)
+    refused_text::put_refused(out, a.number, a.paper, line)
 }

@@ -14,8 +14,8 @@ use Rattle.protocol.specs.Reading.{readProtocol}
 use Rattle.bounds.proofs.Bounds.{protocol-low}
 use Rattle.answers.specs.declared.Answer.{Answer}
 use Rattle.answers.specs.Answers.{refusedAt, finished, Refused, Listed}
-use Rattle.answers.specs.RefusedText.{refusedText}
-use Rattle.answers.proofs.RefusedLength.{refused-short}
+use Rattle.refused_text.specs.RefusedText.{refusedText}
+use Rattle.refused_text.proofs.RefusedLength.{refused-short}
 use Rattle.plan.specs.Call.{Call}
 use Rattle.plan.specs.Printed.{PlanPrinted}
 use Rattle.plan.proofs.PlanLongest.{plan-length}

@@ -5,7 +5,7 @@ use mathlib.Core.Logic.{_≢_}
 use mathlib.Core.List.{List}
 use Rattle.text.specs.Written.{Wrote}
 use Rattle.protocol.specs.Reading.{readProtocol}
-use Rattle.answers.specs.RefusedText.{refusedText}
+use Rattle.refused_text.specs.RefusedText.{refusedText}
 use Rattle.plan.specs.Call.{PlanListing}
 
 -- The first n of the lent bytes are what is printed; the others are as they were.

@@ -53,5 +53,5 @@ pub fn print_plan(text: &[u8], out: &mut [u8]) -> usize
         return a.length;
     }
     let line = a.line as u32;
-    answers::put_refused(out, a.number, a.paper, line)
+    refused_text::put_refused(out, a.number, a.paper, line)
 }

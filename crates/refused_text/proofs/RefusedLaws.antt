@@ -6,7 +6,7 @@ use lib.ListN.{length, length-append}
 use Rattle.text.specs.Words.{refusedWord, tab, newline}
 use Rattle.text.specs.Written.{decimal, Wrote, Pasted}
 use Rattle.text.proofs.Written.{more-room, then-more, next-room, pasted-next}
-use Rattle.answers.specs.RefusedText.{tabbedNumber, refusedText}
+use Rattle.refused_text.specs.RefusedText.{tabbedNumber, refusedText}
 
 module _ (n at : ℕ) (old : List ℕ) (room : at + length (tabbedNumber n) ≤ length old) where
   pub tab-room : at + 1 ≤ length old

@@ -1,8 +1,8 @@
--- `answers::put_refused` meets its contract.
+-- `refused_text::put_refused` meets its contract.
 use borrow.Author.Needs.{needs}
-use Rattle.answers.proofs.RefusedLaws.{word-room, number-next, then-number, paper-next, then-paper, line-next, then-line, end-next, then-end}
-use Rattle.answers.proofs.put_refused.Statement.{statement}
-use Rattle.answers.proofs.put_refused.Tie as tie
+use Rattle.refused_text.proofs.RefusedLaws.{word-room, number-next, then-number, paper-next, then-paper, line-next, then-line, end-next, then-end}
+use Rattle.refused_text.proofs.put_refused.Statement.{statement}
+use Rattle.refused_text.proofs.put_refused.Tie as tie
 
 slice-aggregate-put : tie.Need-slice-aggregate-put
 slice-aggregate-put c = search needs

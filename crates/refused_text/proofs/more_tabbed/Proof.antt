@@ -1,8 +1,8 @@
--- `answers::more_tabbed` meets its contract.
+-- `refused_text::more_tabbed` meets its contract.
 use borrow.Author.Needs.{needs}
-use Rattle.answers.proofs.RefusedLaws.{tab-room, digits-room, tabbed}
-use Rattle.answers.proofs.more_tabbed.Statement.{statement}
-use Rattle.answers.proofs.more_tabbed.Tie as tie
+use Rattle.refused_text.proofs.RefusedLaws.{tab-room, digits-room, tabbed}
+use Rattle.refused_text.proofs.more_tabbed.Statement.{statement}
+use Rattle.refused_text.proofs.more_tabbed.Tie as tie
 
 slice-aggregate-more : tie.Need-slice-aggregate-more
 slice-aggregate-more c = search needs

@@ -3,7 +3,7 @@ use Prim.Native.Nat.{ℕ, _<_, _≤_}
 use native.Mathlib.Omega.{arith}
 use lib.ListN.{length, length-append}
 use Rattle.text.proofs.Written.{decimal-length}
-use Rattle.answers.specs.RefusedText.{tabbedNumber, refusedText}
+use Rattle.refused_text.specs.RefusedText.{tabbedNumber, refusedText}
 
 pub refused-short : (number paper line : ℕ) → number < 100 → paper < 10 → line < 100000 → length (refusedText number paper line) ≤ 20
 unfolding refusedText tabbedNumber

@@ -1,0 +1,3 @@
+mod RefusedLaws
+pub mod RefusedLength
+pub mod Determined
