@@ -2,4 +2,3 @@ pub mod JudgeLaws
 pub mod Promises
 pub mod Determined
 pub mod JudgeLongest
-pub mod Printing

@@ -3,7 +3,6 @@ use Prim.Native.Nat.{ℕ}
 use mathlib.Core.List.{List}
 use Rattle.determined.specs.Determined.{DeterminesLent}
 use Rattle.judge.specs.Call.{Call, Packed}
-use Rattle.judge.specs.Printed.{JudgePrinted}
 
 -- Two answers that the contract allows are equal, and so are the lent bytes.
 abbrev pub JudgeDetermined : Type 0
@@ -11,7 +10,3 @@ JudgeDetermined = (protocol mapping old : List ℕ) → DeterminesLent (Call pro
 
 abbrev pub PackedDetermined : Type 0
 PackedDetermined = (protocol mapping old : List ℕ) → DeterminesLent (Packed protocol mapping old)
-
--- What the judging program prints is one thing.
-abbrev pub PrintedDetermined : Type 0
-PrintedDetermined = (protocol mapping old : List ℕ) → DeterminesLent (JudgePrinted protocol mapping old)

@@ -2,4 +2,3 @@ pub mod Call
 pub mod Promises
 pub mod Determined
 pub mod Longest
-pub mod Printed

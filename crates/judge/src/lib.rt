@@ -1,12 +1,10 @@
 // The judging call: a protocol text and a mapping text in, a listing out.
 ghost use mathlib.Core.Path.{_≡_};
-ghost use Prim.Native.Nat.{_<_, _≤_};
-ghost use lib.ListN.{length};
+ghost use Prim.Native.Nat.{_<_};
 ghost use Rattle.tables.specs.Cells.{TablesOk};
 ghost use Rattle.protocol.specs.Reading.{readProtocol};
 ghost use Rattle.verdicts.specs.Verdicts.{mappingOf};
 ghost use Rattle.judge.specs.Call.{Judged, AfterProtocol, Call, Packed};
-ghost use Rattle.judge.specs.Printed.{JudgePrinted};
 use answers::Answer;
 use rules::Network;
 use tables::Tables;
@@ -59,17 +57,4 @@ pub extern "C" fn vn_judge_texts(protocol: &[u8], mapping: &[u8], out: &mut [u8]
 {
     let a = judge(protocol, mapping, out);
     answers::packed(a)
-}
-
-// What the judging program prints. There is room for the longest answer within the limits.
-pub fn print_judgement(protocol: &[u8], mapping: &[u8], out: &mut [u8]) -> usize
-    requires { ⌜ 2048 ≤ length (now out) ⌝ }
-    ensures { λ r. ⌜ JudgePrinted (now (protocol .entry)) (now (mapping .entry)) (now (out .entry)) (now (out .exit)) r ⌝ }
-{
-    let a = judge(protocol, mapping, out);
-    if a.number == 0 {
-        return a.length;
-    }
-    let line = a.line as u32;
-    refused_text::put_refused(out, a.number, a.paper, line)
 }

@@ -11,8 +11,6 @@ use lib.Dec.{eqb}
 use borrow.Author.Tests.{eqb-true, eqb-false}
 use Rattle.rules.specs.Rules.{Relations}
 use Rattle.rules.proofs.Promises.{determined, one-class}
-use Rattle.text.specs.Written.{Wrote}
-use Rattle.text.proofs.Determined.{wrote-determined}
 use Rattle.tables.specs.declared.MessageRow.{MessageRow}
 use Rattle.tables.specs.declared.Tables.{Tables}
 use Rattle.tables.specs.Tables.{messagesOf}
@@ -22,7 +20,7 @@ use Rattle.answers.specs.Answers.{Listed, packedAnswer}
 use Rattle.answers.proofs.Determined.{refusal-determined, listed-determined}
 use Rattle.plan_listing.specs.PlanText.{classThree, classTwo}
 use Rattle.plan.specs.Call.{Three, Two, PlanListing}
-use Rattle.plan.specs.Determined.{PlanDetermined, PackedDetermined, PrintedDetermined}
+use Rattle.plan.specs.Determined.{PlanDetermined, PackedDetermined}
 
 -- ---- the listing
 
@@ -61,13 +59,3 @@ pub packed-determined : PackedDetermined
 packed-determined text old new₁ new₂ j k v w =
     let q = plan-determined text old new₁ new₂ (v .answer) (w .answer) (v .call) (w .call) in
     (v .is ∙ ap packedAnswer (q .0) ∙ sym (w .is), q .1)
-
-pub printed-determined : PrintedDetermined
-printed-determined text old new₁ new₂ j k v w =
-    wrote-determined (v .printed) old new₁ new₂ j k (v .wrote) (subst (λ (l : List ℕ). Wrote l old new₂ k) (same (eqb (readProtocol text .number) 0) refl) (w .wrote))
-  where
-    same : (b : Bool) → eqb (readProtocol text .number) 0 ≡ b → w .printed ≡ v .printed
-    same true e =
-        let z = eqb-true (readProtocol text .number) 0 e in
-        listing-one (readProtocol text .tables) (w .printed) (v .printed) (w .planned z) (v .planned z)
-    same false e = let n = eqb-false (readProtocol text .number) 0 e in w .refused n ∙ sym (v .refused n)

@@ -1,4 +1,3 @@
 pub mod PlanLaws
 pub mod Determined
 pub mod PlanLongest
-pub mod Printing

@@ -3,7 +3,6 @@ use Prim.Native.Nat.{ℕ}
 use mathlib.Core.List.{List}
 use Rattle.determined.specs.Determined.{DeterminesLent}
 use Rattle.plan.specs.Call.{Call, Packed}
-use Rattle.plan.specs.Printed.{PlanPrinted}
 
 -- Two answers that the contract allows are equal, and so are the lent bytes.
 abbrev pub PlanDetermined : Type 0
@@ -11,7 +10,3 @@ PlanDetermined = (text old : List ℕ) → DeterminesLent (Call text old)
 
 abbrev pub PackedDetermined : Type 0
 PackedDetermined = (text old : List ℕ) → DeterminesLent (Packed text old)
-
--- What the planning program prints is one thing.
-abbrev pub PrintedDetermined : Type 0
-PrintedDetermined = (text old : List ℕ) → DeterminesLent (PlanPrinted text old)

@@ -1,9 +1,7 @@
 // The planning call: a protocol text in, a listing out.
-ghost use Prim.Native.Nat.{_<_, _≤_};
-ghost use lib.ListN.{length};
+ghost use Prim.Native.Nat.{_<_};
 ghost use Rattle.tables.specs.Cells.{TablesOk};
 ghost use Rattle.plan.specs.Call.{Planned, Call, Packed};
-ghost use Rattle.plan.specs.Printed.{PlanPrinted};
 use answers::Answer;
 use tables::Tables;
 
@@ -41,17 +39,4 @@ pub extern "C" fn vn_plan_text(text: &[u8], out: &mut [u8]) -> u64
 {
     let a = plan(text, out);
     answers::packed(a)
-}
-
-// What the planning program prints. There is room for the longest answer within the limits.
-pub fn print_plan(text: &[u8], out: &mut [u8]) -> usize
-    requires { ⌜ 2048 ≤ length (now out) ⌝ }
-    ensures { λ r. ⌜ PlanPrinted (now (text .entry)) (now (out .entry)) (now (out .exit)) r ⌝ }
-{
-    let a = plan(text, out);
-    if a.number == 0 {
-        return a.length;
-    }
-    let line = a.line as u32;
-    refused_text::put_refused(out, a.number, a.paper, line)
 }

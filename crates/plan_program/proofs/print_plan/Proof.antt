@@ -1,9 +1,9 @@
--- `plan::print_plan` meets its contract.
+-- `plan_program::print_plan` meets its contract.
 use native.Mathlib.Omega.{arith}
 use borrow.Author.Needs.{needs}
-use Rattle.plan.proofs.Printing.{print-listing, refusal-line, refusal-room, print-refusal}
-use Rattle.plan.proofs.print_plan.Statement.{statement}
-use Rattle.plan.proofs.print_plan.Tie as tie
+use Rattle.plan_program.proofs.Printing.{print-listing, refusal-line, refusal-room, print-refusal}
+use Rattle.plan_program.proofs.print_plan.Statement.{statement}
+use Rattle.plan_program.proofs.print_plan.Tie as tie
 
 plan-requires : tie.Need-plan-requires
 plan-requires c κs = search needs

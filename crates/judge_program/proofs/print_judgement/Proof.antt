@@ -1,9 +1,9 @@
--- `judge::print_judgement` meets its contract.
+-- `judge_program::print_judgement` meets its contract.
 use native.Mathlib.Omega.{arith}
 use borrow.Author.Needs.{needs}
-use Rattle.judge.proofs.Printing.{print-listing, refusal-line, refusal-room, print-refusal}
-use Rattle.judge.proofs.print_judgement.Statement.{statement}
-use Rattle.judge.proofs.print_judgement.Tie as tie
+use Rattle.judge_program.proofs.Printing.{print-listing, refusal-line, refusal-room, print-refusal}
+use Rattle.judge_program.proofs.print_judgement.Statement.{statement}
+use Rattle.judge_program.proofs.print_judgement.Tie as tie
 
 judge-requires : tie.Need-judge-requires
 judge-requires c κs = search needs

@@ -20,10 +20,10 @@ use Rattle.answers.specs.Answers.{Refused}
 use Rattle.refused_text.specs.RefusedText.{refusedText}
 use Rattle.refused_text.proofs.RefusedLength.{refused-short}
 use Rattle.verdicts.specs.Verdicts.{mappingOf}
-use Rattle.plan.proofs.Printing.{listed-wrote, refused-parts}
+use Rattle.plan_program.proofs.Printing.{listed-wrote, refused-parts}
 use Rattle.judge.specs.Call.{Judged, mappedFor, Call}
-use Rattle.judge.specs.Printed.{JudgePrinted}
+use Rattle.judge_program.specs.Printed.{JudgePrinted}
 use Rattle.judge.proofs.JudgeLongest.{judge-length}
 
 -- ---- the three answers
 

@@ -16,9 +16,9 @@ use Rattle.answers.specs.declared.Answer.{Answer}
 use Rattle.answers.specs.Answers.{refusedAt, finished, Refused, Listed}
 use Rattle.refused_text.specs.RefusedText.{refusedText}
 use Rattle.refused_text.proofs.RefusedLength.{refused-short}
 use Rattle.plan.specs.Call.{Call}
-use Rattle.plan.specs.Printed.{PlanPrinted}
+use Rattle.plan_program.specs.Printed.{PlanPrinted}
 use Rattle.plan.proofs.PlanLongest.{plan-length}
 
 -- ---- answers, whatever they are about
 
