@@ -8,7 +8,7 @@ use native.Mathlib.Omega.{arith}
 use lib.ListN.{length, getD}
 use lib.Dec.{ltb}
 use borrow.Author.Tests.{ltb-true, ltb-false}
-use Rattle.rules.specs.Cases.{upTo}
+use Rattle.rules.specs.Lists.{upTo}
 use Rattle.text.specs.Written.{decimal}
 use Rattle.text.proofs.Parts.{true-same, same-false, first-at, first-none}
 use Rattle.text.proofs.Written.{decimal-small, decimal-step}

@@ -2,7 +2,7 @@
 use Prim.Native.Nat.{ℕ}
 use mathlib.Core.Bool.{Bool}
 use mathlib.Core.List.{List}
-use Rattle.rules.specs.Cases.{upTo}
+use Rattle.rules.specs.Lists.{upTo}
 use Rattle.text.specs.Parts.{sameText, firstIndex}
 use Rattle.text.specs.Written.{decimal}
 

@@ -2,7 +2,7 @@
 use mathlib.Core.Path.{_≡_, refl}
 use native.Mathlib.Decide.{ℕ-discrete}
 use mathlib.Core.Bool.{decide}
-use Rattle.rules.specs.Cases.{bell}
+use Rattle.rule_cases.specs.Cases.{bell}
 use Rattle.rules.proofs.Entry.{some?, goes-to?, is-stall?, is-message?, enters?, any-carrier?, opens?, any-carries?, no-entry?}
 use Rattle.text.specs.Parts.{sameText, split, lines, firstIndex, howMany}
 use Rattle.text.specs.Name.{nameOf, nameRule, nameByte, every}

@@ -10,10 +10,6 @@ pub mod Decided
 pub mod Promises
 pub mod Entry
 pub mod Given
-pub mod Local
 pub mod Picked
 pub mod Same
-pub mod Tests
-pub mod Model
-pub mod Cases
 pub mod Determined

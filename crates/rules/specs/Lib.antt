@@ -3,4 +3,3 @@ pub mod Walks
 pub mod Rules
 pub mod Plan
 pub mod Promises
-pub mod Cases

@@ -1,5 +1,5 @@
--- Lists: what is in them, and their dictionary order.
-use Prim.Native.Nat.{ℕ, _<_}
+-- Lists: what is in them, their dictionary order, and the list of a function's values.
+use Prim.Native.Nat.{ℕ, zero, suc, _<_}
 use mathlib.Core.Path.{_≡_}
 use mathlib.Core.Logic.{_⊎_}
 use mathlib.Core.List.{List, [], _∷_}
@@ -27,3 +27,8 @@ module _ {A : Type 0} where
   abbrev pub Some : (A → Type 0) → List A → Type 0
   Some P [] = ⊥
   Some P (x ∷ xs) = P x ⊎ Some P xs
+
+-- f 0, f 1, up to f (n - 1)
+abbrev pub upTo {ℓ} : {A : Type ℓ} → ℕ → (ℕ → A) → List A
+upTo zero f = []
+upTo (suc n) f = f 0 ∷ upTo n (λ k. f (suc k))

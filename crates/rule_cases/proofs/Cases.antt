@@ -7,16 +7,16 @@ use mathlib.Core.List.{List, [], _∷_, _++_}
 use native.Mathlib.Omega.{arith}
 use lib.Dec.{T, eqb, ltb}
 use lib.ListN.{length}
 use Rattle.rules.specs.Lists.{_∈_, Some}
 use Rattle.rules.specs.Rules.{Relations, Mapping, Waits, Step, Trigger, message, event, Outcome, stall, go, Cell, Causes, Enters, Carrier, Stalls}
 use Rattle.rules.specs.Plan.{Word, waits, queues, Says}
 use Rattle.rules.specs.Promises.{Accepted}
-use Rattle.rules.specs.Cases.{Given, relations, tables, relationsOf, Listed, Answer, networks, cycle, fit, unfit, mapOf, Worded, Words, Right, Case, AllRight, cases, moreCases}
+use Rattle.rule_cases.specs.Cases.{Given, relations, tables, relationsOf, Listed, Answer, networks, cycle, fit, unfit, mapOf, Worded, Words, Right, Case, AllRight, cases, moreCases}
 use Rattle.rules.proofs.Decided.{waits-within, step-within}
 use Rattle.rules.proofs.Entry.{some-get, some-map}
 use Rattle.rules.proofs.Given.{InRange, Every, tables-accepted}
-use Rattle.rules.proofs.Tests.{Tells, and-tells, or-tells, not-tells, eqb-tells, ltb-tells, inb, in-tells, at, rounds}
-use Rattle.rules.proofs.Model.{rowsOf, rows-tell, closure-tell, waitsRows, waits-tell, planb, plan-sound, stepb, step-tell, fitb, fit-sound, shownb, shown-sound, both}
+use Rattle.rule_cases.proofs.Tests.{Tells, and-tells, or-tells, not-tells, eqb-tells, ltb-tells, inb, in-tells, at, rounds}
+use Rattle.rule_cases.proofs.Model.{rowsOf, rows-tell, closure-tell, waitsRows, waits-tell, planb, plan-sound, stepb, step-tell, fitb, fit-sound, shownb, shown-sound, both}
 
 dec-of : {P : Type 0} (b : Bool) → Tells b P → Dec P
 dec-of true f = yes (f .0 tt)

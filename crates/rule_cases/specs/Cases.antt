@@ -1,17 +1,13 @@
 -- The proved table of the paper (01-scope.md, "The proved table"): fourteen cases, and what it means that the rules give the answer written beside each.
-use Prim.Native.Nat.{ℕ, zero, suc, _+_, _-_}
+use Prim.Native.Nat.{ℕ, _+_, _-_}
 use mathlib.Core.Path.{_≡_}
 use mathlib.Core.Logic.{_⊎_}
 use mathlib.Core.List.{List, [], _∷_, _++_}
 use lib.ListN.{length, getD}
+use Rattle.rules.specs.Lists.{upTo}
 use Rattle.rules.specs.Walks.{Rel}
 use Rattle.rules.specs.Rules.{MessageNo, NetworkNo, Cell, message, event, stall, go, Relations, ofCells, Mapping, Fit}
 use Rattle.rules.specs.Plan.{LeastCount, Printed, PlanCycle, JudgeCycle, Word, waits, queues, Says}
-
--- f 0, f 1, up to f (n - 1)
-abbrev pub upTo {ℓ} : {A : Type ℓ} → ℕ → (ℕ → A) → List A
-upTo zero f = []
-upTo (suc n) f = f 0 ∷ upTo n (λ k. f (suc k))
 
 -- ---- what a case gives
 

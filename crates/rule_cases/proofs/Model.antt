@@ -8,17 +8,17 @@ use native.Mathlib.Decide.{decLt, decLe}
 use native.Mathlib.Omega.{arith}
 use lib.Dec.{T, eqb, ltb, T-not}
 use lib.ListN.{length, getD}
 use Rattle.rules.specs.Walks.{Rel, Chain, Begins, Plus}
 use Rattle.rules.specs.Rules.{Relations, Mapping, Waits, Queues, Step, Fit}
 use Rattle.rules.specs.Plan.{LeastCount, Printed, LongestChain, Closed, Shown}
 use Rattle.rules.specs.Promises.{Accepted}
 use Rattle.rules.proofs.Chains.{star-trans}
 use Rattle.rules.proofs.Search.{via-plus, plus-via, below-suc}
 use Rattle.rules.proofs.Cycle.{All<, closed-small}
 use Rattle.rules.proofs.Least.{least-count}
-use Rattle.rules.proofs.Local.{printed-local, longest-local}
+use Rattle.rule_cases.proofs.Local.{printed-local, longest-local}
 use Rattle.rules.proofs.Decided.{waits-within, turn}
-use Rattle.rules.proofs.Tests.{Tells, id-tells, and-tells, or-tells, not-tells, eqb-tells, ltb-tells, dict-tells, dictb, any, all, any-tells, all-tells, tab, tab-at, at, join, join-tells, choose, rounds, rounds-tell}
+use Rattle.rule_cases.proofs.Tests.{Tells, id-tells, and-tells, or-tells, not-tells, eqb-tells, ltb-tells, dict-tells, dictb, any, all, any-tells, all-tells, tab, tab-at, at, join, join-tells, choose, rounds, rounds-tell}
 
 -- ---- rows
 

@@ -1,0 +1,4 @@
+pub mod Local
+pub mod Tests
+pub mod Model
+pub mod Cases

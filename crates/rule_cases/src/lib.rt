@@ -1,0 +1,1 @@
+// No code: the proved table of the paper, cases and answers, and that the rules give these answers.
