@@ -23,7 +23,8 @@ use Rattle.records.specs.Checks.{sectionChecks, lineChecks, lineRefusal}
 use Rattle.mapping.specs.declared.Mapped.{Mapped}
 use Rattle.mapping.specs.Reading.{readMaps, readMapping, endOf, unless as unlessMapped}
 use Rattle.networks.specs.Networks.{networkOf}
-use Rattle.maplines.specs.Line.{field, lineChecks as mapChecks, lineRefusal as mapRefusal}
+use Rattle.map_shapes.specs.Shape.{field}
+use Rattle.maplines.specs.Line.{lineChecks as mapChecks, lineRefusal as mapRefusal}
 use Rattle.whole.specs.declared.Reading.{Reading}
 use Rattle.sections.specs.Lines.{readLines, storedIn, stored}
 use Rattle.protocol.specs.Reading.{readProtocol}

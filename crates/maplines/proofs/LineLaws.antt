@@ -6,7 +6,7 @@ use Prim.Native.Nat.{ℕ, _≤_, _<_}
 use native.Mathlib.Omega.{arith}
 use lib.ListN.{length, getD}
 use lib.Dec.{eqb}
-use borrow.Author.Tests.{eqb-true, eq-eqb, ne-eqb, lt-ltb, le-ltb}
+use borrow.Author.Tests.{eqb-true, lt-ltb, le-ltb}
 use Rattle.text.specs.Parts.{sameText, split}
 use Rattle.text.specs.Name.{nameText}
 use Rattle.text.specs.Words.{mapWord}
@@ -16,33 +16,24 @@ use Rattle.text.proofs.FieldLaws.{FieldAt}
 use Rattle.papers.specs.declared.Refusal.{Refusal}
 use Rattle.papers.specs.Checks.{check, refusal, none, pickRefusal, firstOf}
 use Rattle.papers.proofs.Checks.{first-given, first-passed}
-use Rattle.papers.proofs.WholeLine.{whole-count, count-whole, told-field}
+use Rattle.papers.proofs.WholeLine.{whole-count, told-field}
 use Rattle.tables.specs.declared.MessageRow.{MessageRow}
 use Rattle.maplines.specs.declared.MapLine.{MapLine}
-use Rattle.maplines.specs.Line.{Line, field, shaped, matches, isNetwork, lineRefusal}
 use Rattle.networks.specs.Networks.{networkOf}
-use Rattle.maplines.specs.Line.{restChecks, mapLine}
+use Rattle.map_shapes.specs.Shape.{Line, field, shaped}
+use Rattle.maplines.specs.Line.{matches, isNetwork, lineRefusal, restChecks, mapLine}
 
 -- ---- the shape
 
-pub shaped-three : (f : Line) → shaped f ≡ true → length f ≡ 3
+shaped-three : (f : Line) → shaped f ≡ true → length f ≡ 3
 shaped-three f e = go (eqb (length f) 3) refl
   where
     go : (t : Bool) → eqb (length f) 3 ≡ t → length f ≡ 3
     go true q = eqb-true (length f) 3 q
     go false q = absurd (let z : _≡_ {A = Bool} false true = ap (λ (t : Bool). t && sameText (field f 0) mapWord) (sym q) ∙ e in let k : _≡_ {A = ℕ} 0 1 = cc in omega arith)
 
-module _ (l : List ℕ) where
-  pub shape-other : (fieldsOf l 0 (length l) .count ≡ 3 → ⊥) → shaped (split 9 l) ≡ false
-  shape-other h =
-      ap (λ (t : Bool). t && sameText (field (split 9 l) 0) mapWord) (ne-eqb (length (split 9 l)) 3 (λ q. h (whole-count l 3 (omega arith) q)))
-
-  pub shape-word : fieldsOf l 0 (length l) .count ≡ 3 → sameText (field (split 9 l) 0) mapWord ≡ shaped (split 9 l)
-  shape-word h =
-      sym (ap (λ (t : Bool). t && sameText (field (split 9 l) 0) mapWord) (eq-eqb (length (split 9 l)) 3 (count-whole l 3 (omega arith) h)))
-
-  pub shape-count : shaped (split 9 l) ≡ true → fieldsOf l 0 (length l) .count ≡ 3
-  shape-count h = whole-count l 3 (omega arith) (shaped-three (split 9 l) h)
+shape-count : (l : List ℕ) → shaped (split 9 l) ≡ true → fieldsOf l 0 (length l) .count ≡ 3
+shape-count l h = whole-count l 3 (omega arith) (shaped-three (split 9 l) h)
 
 -- where its fields stand
 pub map-field : (l : List ℕ) (r : Fields) (i : ℕ) → shaped (split 9 l) ≡ true → r ≡ fieldsOf l 0 (length l) → i < 3

@@ -1,29 +1,18 @@
--- One line of a mapping text (01-scope.md, "The mapping text"): "`map` name network". A line is the list of its fields.
+-- One line of a mapping text (01-scope.md, "The mapping text"): its checks, and what it gives.
 use Prim.Native.Nat.{ℕ}
-use mathlib.Core.Bool.{Bool, false, not, _&&_}
+use mathlib.Core.Bool.{Bool, false, not}
 use mathlib.Core.List.{List, [], _∷_}
-use lib.ListN.{length, getD}
-use lib.Dec.{eqb, ltb}
+use lib.Dec.{ltb}
 use Rattle.text.specs.Parts.{sameText}
 use Rattle.text.specs.Name.{nameText}
-use Rattle.text.specs.Words.{mapWord}
 use Rattle.papers.specs.declared.Refusal.{Refusal}
 use Rattle.papers.specs.Checks.{Check, check, firstOf}
 use Rattle.tables.specs.declared.MessageRow.{MessageRow}
 use Rattle.networks.specs.Networks.{networkOf}
+use Rattle.map_shapes.specs.Shape.{Line, field, shaped}
 use Rattle.maplines.specs.declared.MapLine.{MapLine}
 
-abbrev pub Line : Type 0
-Line = List (List ℕ)
-
-abbrev pub field : Line → ℕ → List ℕ
-field f i = getD f i []
-
 -- ---- a line's checks
-
--- 4 SHAPE: "unknown record, field count, or fixed word"
-abbrev pub shaped : Line → Bool
-shaped f = eqb (length f) 3 && sameText (field f 0) mapWord
 
 -- 14 UNMATCHED: "mapping line names another message than the next, or is one too many". `next` are the messages that have no line yet.
 abbrev pub matches : List MessageRow → List ℕ → Bool

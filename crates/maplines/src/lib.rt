@@ -1,29 +1,15 @@
-// One line of a mapping: whether it is shaped, and what it gives.
+// One line of a mapping that has its shape: what it gives.
 ghost use mathlib.Core.Path.{_≡_};
 ghost use mathlib.Core.Bool.{true};
 ghost use Rattle.text.specs.Parts.{split};
-ghost use Rattle.maplines.specs.Line.{shaped, mapLine};
+ghost use Rattle.map_shapes.specs.Shape.{shaped};
+ghost use Rattle.maplines.specs.Line.{mapLine};
 use tables::MessageRow;
 
 // What a line gives: the number of its refusal, 0 where there is none, and its network, 32 where it is not written as one.
 pub struct MapLine {
     pub number: u8,
     pub network: u8,
-}
-
-// Whether the line has three fields, the first of which is the word.
-pub fn is_map(line: &[u8]) -> bool
-    ensures { λ r. ⌜ r ≡ shaped (split 9 (now (line .entry))) ⌝ }
-{
-    let fields = fields::fields_of(line, 0, line.len());
-    if fields.count != 3 {
-        return false;
-    }
-    let starts = fields.from;
-    let ends = fields.to;
-    let a = starts[0];
-    let e = ends[0];
-    text::same(&line[a..e], b"map")
 }
 
 // What a line with three fields gives, where it is the turn of this message.

@@ -20,7 +20,8 @@ use Rattle.papers.proofs.Walk.{NextLine, walk-next}
 use Rattle.tables.specs.declared.MessageRow.{MessageRow}
 use Rattle.mapping.specs.declared.Mapped.{Mapped}
 use Rattle.maplines.specs.declared.MapLine.{MapLine}
-use Rattle.maplines.specs.Line.{Line, field, shaped, lineRefusal}
+use Rattle.map_shapes.specs.Shape.{Line, field, shaped}
+use Rattle.maplines.specs.Line.{lineRefusal}
 use Rattle.networks.specs.Networks.{networkOf}
 use Rattle.mapping.specs.Reading.{networkNo, refused, pickMapped, unless, readMaps, readMapping}
 use Rattle.maplines.specs.Line.{mapLine}

@@ -12,7 +12,8 @@ use Rattle.papers.specs.Checks.{refusal}
 use Rattle.papers.specs.Opening.{openingOf}
 use Rattle.tables.specs.declared.MessageRow.{MessageRow}
 use Rattle.networks.specs.Networks.{networkOf}
-use Rattle.maplines.specs.Line.{field, lineRefusal}
+use Rattle.map_shapes.specs.Shape.{field}
+use Rattle.maplines.specs.Line.{lineRefusal}
 use Rattle.mapping.specs.declared.Mapped.{Mapped}
 
 -- ---- the reading

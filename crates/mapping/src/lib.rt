@@ -39,7 +39,7 @@ fn map_lines(text: &[u8], from: usize, messages: [MessageRow; 32], count: usize)
     let mut i = 0;
     while at < n {
         let e = text::find(text, 10, at, n);
-        if !maplines::is_map(&text[at..e]) {
+        if !map_shapes::is_map(&text[at..e]) {
             return refuse(4, i + 2);
         }
         if i == count {

@@ -18,7 +18,8 @@ use Rattle.papers.proofs.OpeningLaws.{opens}
 use Rattle.papers.proofs.Joined.{many-cons, many-append, split-none, split-join, lines-join, Ends, ends-join, name-lacks}
 use Rattle.tables.specs.declared.MessageRow.{MessageRow}
 use Rattle.maplines.specs.declared.MapLine.{MapLine}
-use Rattle.maplines.specs.Line.{field, lineRefusal}
+use Rattle.map_shapes.specs.Shape.{field}
+use Rattle.maplines.specs.Line.{lineRefusal}
 use Rattle.networks.specs.Networks.{networkOf}
 use Rattle.mapping.specs.Reading.{accepted, readMaps, readMapping}
 use Rattle.maplines.specs.Line.{mapLine}

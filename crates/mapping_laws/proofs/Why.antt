@@ -21,7 +21,8 @@ use Rattle.papers.proofs.OpeningLaws.{opening-rows}
 use Rattle.tables.specs.declared.MessageRow.{MessageRow}
 use Rattle.tables.proofs.AllCells.{getD-zeros}
 use Rattle.mapping.specs.declared.Mapped.{Mapped}
-use Rattle.maplines.specs.Line.{field, shaped, matches, isNetwork, lineChecks, lineRefusal}
+use Rattle.map_shapes.specs.Shape.{field, shaped}
+use Rattle.maplines.specs.Line.{matches, isNetwork, lineChecks, lineRefusal}
 use Rattle.networks.specs.Networks.{networkOf}
 use Rattle.mapping.specs.Reading.{networkNo, accepted, refused, readMaps, readMapping}
 use Rattle.maplines.specs.Line.{restChecks}

@@ -11,7 +11,8 @@ use Rattle.papers.specs.Opening.{openingChecks, openingOf, Opens}
 use Rattle.tables.specs.declared.MessageRow.{MessageRow}
 use Rattle.mapping.specs.declared.Mapped.{Mapped}
 use Rattle.networks.specs.Networks.{networkOf}
-use Rattle.maplines.specs.Line.{field, lineChecks, lineRefusal}
+use Rattle.map_shapes.specs.Shape.{field}
+use Rattle.maplines.specs.Line.{lineChecks, lineRefusal}
 use Rattle.mapping.specs.Reading.{accepted, refused, readMapping}
 
 -- The lines before place j give no refusal. The first of them is line k.

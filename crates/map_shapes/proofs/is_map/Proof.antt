@@ -6,10 +6,10 @@ use Rattle.text.specs.declared.Fields.{Fields}
 use Rattle.text.specs.Parts.{sameText}
 use Rattle.text.specs.Words.{mapWord}
 use Rattle.papers.proofs.WholeLine.{told-field}
-use Rattle.maplines.proofs.LineLaws.{shape-other, shape-word}
+use Rattle.map_shapes.proofs.ShapeLaws.{shape-other, shape-word}
 use borrow.Author.Needs.{needs}
-use Rattle.maplines.proofs.is_map.Statement.{statement}
-use Rattle.maplines.proofs.is_map.Tie as tie
+use Rattle.map_shapes.proofs.is_map.Statement.{statement}
+use Rattle.map_shapes.proofs.is_map.Tie as tie
 
 fields-of-requires : tie.Need-fields-of-requires
 fields-of-requires c κs = search needs
