@@ -31,7 +31,7 @@ pub fn judge_of(t: Tables, networks: [Network; 32]) -> Judged
     let n = t.message_count;
     let causes = causing::causes_rows(t);
     let stalls = stalling::stalls_rows(t);
-    let waits = steps::waits_of(causes, stalls, n);
+    let waits = waiting::waits_of(causes, stalls, n);
     let steps = steps::steps_of(waits, stalls, networks, n);
     judge_rows(waits, steps, n)
 }

@@ -8,15 +8,10 @@ use Rattle.rules.specs.declared.Network.{Network}
 use Rattle.rules.specs.Rules.{Mapping, Queues}
 use Rattle.rows.specs.Rows.{Bit, ofRows}
 use Rattle.rows.specs.Closure.{Kept}
-use Rattle.waits.specs.Waiting.{WaitsRows}
 
 -- The mapping that these networks give: message m is in the network at place m.
 abbrev pub mappingOf : List Network → Mapping
 mappingOf networks m = getD networks m (record { 0 = 0 }) .0
-
--- Rule 4: the first n of 32 rows, and the others are 0.
-abbrev pub WaitsOnly : ℕ → List ℕ → List ℕ → List ℕ → Type 0
-WaitsOnly n causes stalls rows = WaitsRows n causes stalls (replicate 32 0) rows
 
 -- Rules 4 and 5: bit k of row m says that m waits for k or queues behind k. Rule 5 asks for the rows of stalls only.
 -- These are the first n of 32 rows, and the others are 0.

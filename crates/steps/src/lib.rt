@@ -1,19 +1,7 @@
-// The rows of steps among a protocol's messages: waits steps by rule 4, queues steps by rule 5.
+// The rows of steps among a protocol's messages: waits steps that are given, and queues steps by rule 5.
 ghost use Prim.Native.Nat.{_<_, _≤_};
-ghost use Rattle.waits.specs.Waiting.{Tidy};
-ghost use Rattle.steps.specs.Steps.{mappingOf, WaitsOnly, StepsRows, StalledRow, WithBehind, QueuesRow};
+ghost use Rattle.steps.specs.Steps.{mappingOf, StepsRows, StalledRow, WithBehind, QueuesRow};
 use rules::Network;
-
-// The rows of waits of n messages, by rule 4. The other rows are 0.
-pub fn waits_of(causes: [u32; 32], stalls: [u32; 32], n: usize) -> [u32; 32]
-    requires { ⌜ (n ≤ 32) × Tidy n causes × Tidy n stalls ⌝ }
-    ensures { λ r. ⌜ WaitsOnly n causes stalls r ⌝ }
-{
-    let mut closed = causes;
-    let mut waits = [0u32; 32];
-    waits::waits(&mut closed, &stalls, n, &mut waits);
-    waits
-}
 
 // The messages that something stalls.
 fn stalled_of(stalls: [u32; 32], n: usize) -> u32

@@ -92,6 +92,6 @@ pub fn plan_of(t: Tables) -> Planned
     let n = t.message_count;
     let causes = causing::causes_rows(t);
     let stalls = stalling::stalls_rows(t);
-    let waits = steps::waits_of(causes, stalls, n);
+    let waits = waiting::waits_of(causes, stalls, n);
     plan_rows(waits, n)
 }

@@ -1,7 +1,7 @@
--- `steps::waits_of` meets its contract.
+-- `waiting::waits_of` meets its contract.
 use borrow.Author.Needs.{needs}
-use Rattle.steps.proofs.waits_of.Statement.{statement}
-use Rattle.steps.proofs.waits_of.Tie as tie
+use Rattle.waiting.proofs.waits_of.Statement.{statement}
+use Rattle.waiting.proofs.waits_of.Tie as tie
 
 slice-aggregate-waits : tie.Need-slice-aggregate-waits
 slice-aggregate-waits c = search needs
