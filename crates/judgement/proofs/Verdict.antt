@@ -20,8 +20,8 @@ use Rattle.tables.specs.declared.Tables.{Tables}
 use Rattle.tables.specs.Cells.{relationsOfTables, TablesOk}
 use Rattle.tables.specs.Relations.{StallsRows}
 use Rattle.tables.proofs.InRange.{relations-accepted, rows-stalls}
+use Rattle.walked.specs.Numbers.{asMessage}
 use Rattle.verdicts.specs.Verdicts.{WaitsOf, MessagesPast, Fitting, Unfitting}
-use Rattle.verdicts.specs.Leaves.{asMessage}
 use Rattle.steps.specs.Steps.{StepsRows}
 use Rattle.judgement.specs.Judging.{StepsOf, RowsJudged}
 use Rattle.verdicts.proofs.Waiting.{rows-waits}

@@ -15,7 +15,7 @@ fn judge_rows(waits: [u32; 32], steps: [u32; 32], n: usize) -> Judged
 {
     let mut bytes = [0u8; 32];
     let length = cycles::cycle(&waits, &steps, n, &mut bytes);
-    let cycle = verdicts::messages_of(bytes);
+    let cycle = walked::messages_of(bytes);
     Judged {
         length: length,
         cycle: cycle,

@@ -1,4 +1,4 @@
--- The contracts determine what the functions give back: two results that they allow are equal.
+-- The contract determines the plan: two results that it allows are equal.
 use Prim.Native.Nat.{ℕ, _-_}
 use mathlib.Core.Path.{_≡_, refl, sym, ap, ap₂, _∙_}
 use mathlib.Core.Logic.{inl, inr}
@@ -7,7 +7,6 @@ use native.Mathlib.Omega.{arith}
 use lib.ListN.{length, getD, take, replicate, take-append-drop}
 use lib.Seq.{ext-getD}
 use Rattle.determined.specs.Determined.{Determines}
-use Rattle.determined.proofs.Equal.{equal}
 use Rattle.rules.specs.declared.Message.{Message}
 use Rattle.rules.specs.declared.Network.{Network}
 use Rattle.rules.specs.Rules.{Relations}
@@ -15,12 +14,10 @@ use Rattle.rules.proofs.Promises.{determined, one-class}
 use Rattle.tables.specs.declared.Tables.{Tables}
 use Rattle.tables.specs.Cells.{relationsOfTables, number as messageNumber}
 use Rattle.plan_listing.specs.PlanText.{networkNumber, firstMessages, firstNetworks}
+use Rattle.walked.specs.Numbers.{asMessage}
 use Rattle.verdicts.specs.declared.Planned.{Planned}
 use Rattle.verdicts.specs.Verdicts.{clearedMessage, MessagesPast, NetworksPast, PlanIs, ClassThree, ClassTwo}
-use Rattle.verdicts.specs.Leaves.{asMessage, asNetwork}
-
-pub messages-of-determined : (bytes : List ℕ) → Determines (λ (r : List Message). r ≡ map asMessage bytes)
-messages-of-determined bytes = equal _
+use Rattle.verdicts.specs.Leaves.{asNetwork}
 
 -- ---- arrays whose first numbers are told, and which are cleared past them
 

@@ -1,4 +1,4 @@
-pub mod Turning
+pub mod Made
 pub mod Written
 pub mod Waiting
 pub mod Planning

@@ -20,9 +20,10 @@ use Rattle.rules.proofs.Decided.{plus-closed}
 use Rattle.tables.specs.Cells.{relationsOfTables}
 use Rattle.tables.proofs.InRange.{relations-accepted}
 use Rattle.plan_listing.specs.PlanText.{firstNetworks}
+use Rattle.walked.specs.Numbers.{asMessage}
 use Rattle.verdicts.specs.declared.Planned.{Planned}
 use Rattle.verdicts.specs.Verdicts.{WaitsOf, ClassThree, ClassTwo}
-use Rattle.verdicts.specs.Leaves.{asMessage, asNetwork, classThree, classTwo, RowsPlan}
+use Rattle.verdicts.specs.Leaves.{asNetwork, classThree, classTwo, RowsPlan}
 use Rattle.verdicts.proofs.Waiting.{rows-waits}
 use Rattle.verdicts.proofs.Written.{networks-first, past, cycle-first, cycle-few, cycle-long, cycle-messages, cycle-past}
 

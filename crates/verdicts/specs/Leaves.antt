@@ -3,15 +3,12 @@ use Prim.Native.Nat.{ℕ, _<_}
 use mathlib.Core.Path.{_≡_}
 use mathlib.Core.List.{List, map}
 use lib.ListN.{replicate}
-use Rattle.rules.specs.declared.Message.{Message}
 use Rattle.rules.specs.declared.Network.{Network}
 use Rattle.tables.specs.declared.Tables.{Tables}
 use Rattle.tables.specs.Cells.{relationsOfTables, TablesOk}
+use Rattle.walked.specs.Numbers.{asMessage}
 use Rattle.verdicts.specs.declared.Planned.{Planned}
 use Rattle.verdicts.specs.Verdicts.{clearedMessage, clearedNetwork, WaitsOf, PlanIs}
-
-abbrev pub asMessage : ℕ → Message
-asMessage n = record { 0 = n }
 
 abbrev pub asNetwork : ℕ → Network
 asNetwork n = record { 0 = n }

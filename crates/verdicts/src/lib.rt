@@ -1,10 +1,9 @@
 // What is found out about a protocol's tables: a plan, or the judgement of a mapping; and the plan itself.
 ghost use mathlib.Core.Path.{_≡_};
-ghost use mathlib.Core.List.{map};
 ghost use Prim.Native.Nat.{_<_, _≤_};
 ghost use Rattle.tables.specs.Cells.{relationsOfTables, TablesOk};
 ghost use Rattle.verdicts.specs.Verdicts.{PlanIs};
-ghost use Rattle.verdicts.specs.Leaves.{asMessage, classThree, classTwo, RowsPlan};
+ghost use Rattle.verdicts.specs.Leaves.{classThree, classTwo, RowsPlan};
 use rules::Message;
 use rules::Network;
 use tables::Tables;
@@ -22,20 +21,6 @@ pub struct Judged {
     pub length: usize,
     pub cycle: [Message; 32],
     pub waits: [u32; 32],
-}
-
-// The numbers that a walk wrote, as messages.
-pub fn messages_of(bytes: [u8; 32]) -> [Message; 32]
-    ensures { λ r. ⌜ r ≡ map asMessage bytes ⌝ }
-{
-    let mut messages = [Message(0); 32];
-    let mut i = 0;
-    while i < 32 {
-        let byte = bytes[i];
-        messages[i] = Message(byte);
-        i += 1;
-    }
-    messages
 }
 
 // A plan of class 3: the heights that were written are the networks.
@@ -61,7 +46,7 @@ fn ranked(count: usize, bytes: [u8; 32]) -> Planned
 fn cycled(length: usize, bytes: [u8; 32]) -> Planned
     ensures { λ r. ⌜ r ≡ classTwo length bytes ⌝ }
 {
-    let cycle = messages_of(bytes);
+    let cycle = walked::messages_of(bytes);
     Planned {
         count: 0,
         networks: [Network(0); 32],

@@ -1,6 +1,6 @@
 -- `verdicts::cycled` meets its contract.
 use borrow.Author.Needs.{needs}
-use Rattle.verdicts.proofs.Turning.{class-two-made}
+use Rattle.verdicts.proofs.Made.{class-two-made}
 use Rattle.verdicts.proofs.cycled.Statement.{statement}
 use Rattle.verdicts.proofs.cycled.Tie as tie
 

@@ -1,11 +1,11 @@
--- `verdicts::messages_of` meets its contract.
+-- `walked::messages_of` meets its contract.
 use Prim.Native.Nat.{_-_}
 use native.Mathlib.Omega.{arith}
 use borrow.Author.Needs.{needs}
-use Rattle.verdicts.specs.Leaves.{asMessage}
-use Rattle.verdicts.proofs.Turning.{Turned, turned-none, turned-more, turned-all}
-use Rattle.verdicts.proofs.messages_of.Statement.{statement}
-use Rattle.verdicts.proofs.messages_of.Tie as tie
+use Rattle.walked.specs.Numbers.{asMessage}
+use Rattle.walked.proofs.Turning.{Turned, turned-none, turned-more, turned-all}
+use Rattle.walked.proofs.messages_of.Statement.{statement}
+use Rattle.walked.proofs.messages_of.Tie as tie
 
 abbrev Inv-loop : tie.InvT-loop
 Inv-loop bytes messages₀ i₀ messages i = Turned asMessage bytes i messages

@@ -4,13 +4,8 @@ use mathlib.Core.Path.{_≡_, refl, sym, ap, _∙_}
 use mathlib.Core.List.{List, [], _∷_, _++_, map, map-append}
 use native.Mathlib.Numerals.{add-one}
 use native.Mathlib.Omega.{arith}
-use lib.ListN.{length, getD, take, set, replicate, length-set}
+use lib.ListN.{length, getD, take, set, length-set}
 use lib.Seq.{take-suc, take-suc-set, take-all}
-use Rattle.rules.specs.declared.Message.{Message}
-use Rattle.rules.specs.declared.Network.{Network}
-use Rattle.verdicts.specs.declared.Planned.{Planned}
-use Rattle.verdicts.specs.Verdicts.{clearedMessage, clearedNetwork}
-use Rattle.verdicts.specs.Leaves.{asMessage, asNetwork, classThree, classTwo}
 
 module _ {A : Type 0} (f : ℕ → A) (bytes : List ℕ) where
   -- the first i are turned
@@ -34,16 +29,3 @@ module _ {A : Type 0} (f : ℕ → A) (bytes : List ℕ) where
 
   pub turned-all : (i : ℕ) (l : List A) → length bytes ≤ i → Turned i l → l ≡ map f bytes
   turned-all i l h t = sym (take-all i l (omega (arith, t .long))) ∙ t .done ∙ ap (map f) (take-all i bytes h)
-
--- ---- plans that are made out of what was turned
-
-abbrev plan : ℕ → List Network → ℕ → List Message → Planned
-plan count networks length cycle = record { count = count; networks = networks; length = length; cycle = cycle }
-
-pub class-three-made : (count : ℕ) (bytes : List ℕ) (networks : List Network) → networks ≡ map asNetwork bytes → plan count networks 0 (replicate 32 clearedMessage) ≡ classThree count bytes
-unfolding classThree
-class-three-made count bytes networks e = ap (λ (l : List Network). plan count l 0 (replicate 32 clearedMessage)) e
-
-pub class-two-made : (len : ℕ) (bytes : List ℕ) (cycle : List Message) → cycle ≡ map asMessage bytes → plan 0 (replicate 32 clearedNetwork) len cycle ≡ classTwo len bytes
-unfolding classTwo
-class-two-made len bytes cycle e = ap (λ (l : List Message). plan 0 (replicate 32 clearedNetwork) len l) e
