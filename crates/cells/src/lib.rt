@@ -76,7 +76,7 @@ pub fn cell_line(
     match shape {
         Shape::Wrong => refused(4),
         Shape::Stall(whose) => {
-            let at = readings::stall_of(
+            let at = stall_cells::stall_of(
                 line,
                 f,
                 whose,
@@ -90,7 +90,7 @@ pub fn cell_line(
             judged(at, cells, count)
         }
         Shape::Go(whose) => {
-            let at = readings::go_of(
+            let at = go_cells::go_of(
                 line,
                 f,
                 whose,

@@ -1,10 +1,11 @@
--- Both public contracts determine what the functions give back.
+-- What is read, and what is given where a line is not read, is determined by the contracts.
 use Prim.Native.Nat.{ℕ}
 use mathlib.Core.Path.{_≡_, refl, sym, _∙_}
 use mathlib.Core.Bool.{Bool, true, false}
 use mathlib.Core.List.{List}
 use lib.ListN.{replicate}
 use Rattle.determined.specs.Determined.{Determines}
+use Rattle.determined.proofs.Equal.{equal}
 use Rattle.tables.specs.declared.MessageRow.{MessageRow}
 use Rattle.tables.specs.declared.EventRow.{EventRow}
 use Rattle.tables.specs.declared.StateRow.{StateRow}
@@ -15,7 +16,10 @@ use Rattle.tables.specs.Given.{Declared}
 use Rattle.tables.proofs.Given.{given, given-declared}
 use Rattle.records.specs.Line.{Line}
 use Rattle.readings.specs.declared.Reading.{Reading}
-use Rattle.readings.specs.Known.{CellRead}
+use Rattle.readings.specs.Known.{noReading, CellRead}
+
+pub unread-determined : Determines (λ (r : Reading). r ≡ noReading)
+unread-determined = equal _
 
 same : {k k′ b b′ : Bool} {c c′ : Cell} → k ≡ k′ → b ≡ b′ → c ≡ c′
     → _≡_ {A = Reading} (record { known = k; stuck = b; cell = c }) (record { known = k′; stuck = b′; cell = c′ })

@@ -1,12 +1,13 @@
--- `readings::go_of` meets its contract.
+-- `go_cells::go_of` meets its contract.
 use borrow.Author.Tests.{not-true, not-false}
 use Rattle.text.specs.Parts.{split}
 use Rattle.cell_shapes.proofs.Shapes.{count-short}
-use Rattle.readings.proofs.Whole.{not-placed, not-targeted, going}
+use Rattle.readings.proofs.Whole.{not-placed}
+use Rattle.go_cells.proofs.Going.{not-targeted, going}
 use borrow.Author.Needs.{needs}
 use native.Mathlib.Omega.{arith}
-use Rattle.readings.proofs.go_of.Statement.{statement}
-use Rattle.readings.proofs.go_of.Tie as tie
+use Rattle.go_cells.proofs.go_of.Statement.{statement}
+use Rattle.go_cells.proofs.go_of.Tie as tie
 
 place-of-requires : tie.Need-place-of-requires
 place-of-requires c κs = (c .before .pre .0, omega (arith, c .before .pre .1 .some, c .before .pre .1 .few, count-short (c .before .args .line .now) (c .before .args .f) (c .before .pre .0) (c .before .pre .1 .few)), c .before .pre .2, c .before .pre .3, c .before .pre .4)

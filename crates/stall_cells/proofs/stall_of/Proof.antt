@@ -1,12 +1,13 @@
--- `readings::stall_of` meets its contract.
+-- `stall_cells::stall_of` meets its contract.
 use borrow.Author.Tests.{not-true, not-false}
 use Rattle.text.specs.Parts.{split}
 use Rattle.cell_shapes.proofs.Shapes.{count-short}
-use Rattle.readings.proofs.Whole.{not-placed, stalling}
+use Rattle.readings.proofs.Whole.{not-placed}
+use Rattle.stall_cells.proofs.Stalling.{stalling}
 use borrow.Author.Needs.{needs}
 use native.Mathlib.Omega.{arith}
-use Rattle.readings.proofs.stall_of.Statement.{statement}
-use Rattle.readings.proofs.stall_of.Tie as tie
+use Rattle.stall_cells.proofs.stall_of.Statement.{statement}
+use Rattle.stall_cells.proofs.stall_of.Tie as tie
 
 place-of-requires : tie.Need-place-of-requires
 place-of-requires c κs = (c .before .pre .0, omega (arith, c .before .pre .1 .long, count-short (c .before .args .line .now) (c .before .args .f) (c .before .pre .0) (omega (arith, c .before .pre .1 .long))), c .before .pre .2, c .before .pre .3, c .before .pre .4)
