@@ -1,4 +1,4 @@
--- What each contract allows is one answer, the number and every lent byte. That of `put_number` is the one of `text::put`, and shown there.
+-- What each contract allows is one answer, the number and every lent byte.
 use mathlib.Core.List.{List}
 use Prim.Native.Nat.{ℕ}
 use Rattle.determined.specs.Determined.{DeterminesLent}

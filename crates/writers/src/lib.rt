@@ -1,22 +1,8 @@
-// Writers that take the rest of the output: a number in decimal, and a text, a number or a name at a place.
+// Writers that take the rest of the output: a text, a number or a name at a place.
 ghost use Prim.Native.Nat.{_+_, _≤_};
 ghost use lib.ListN.{length};
 ghost use Rattle.text.specs.Name.{nameText};
-ghost use Rattle.text.specs.Written.{decimal, Wrote, Pasted};
-
-// n in decimal at the front of out.
-pub fn put_number(out: &mut [u8], n: u32) -> usize
-    requires { ⌜ length (decimal n) ≤ length (now out) ⌝ }
-    ensures { λ r. ⌜ Wrote (decimal n) (now (out .entry)) (now (out .exit)) r ⌝ }
-{
-    if n < 10 {
-        out[0] = n as u8 + 48;
-        return 1;
-    }
-    let at = put_number(out, n / 10);
-    out[at] = (n % 10) as u8 + 48;
-    at + 1
-}
+ghost use Rattle.text.specs.Written.{decimal, Pasted};
 
 // The text at a place of out.
 pub fn more(out: &mut [u8], at: usize, text: &[u8]) -> usize
@@ -31,7 +17,7 @@ pub fn more_number(out: &mut [u8], at: usize, n: u32) -> usize
     requires { ⌜ at + length (decimal n) ≤ length (now out) ⌝ }
     ensures { λ r. ⌜ Pasted (decimal n) at (now (out .entry)) (now (out .exit)) r ⌝ }
 {
-    at + put_number(&mut out[at..], n)
+    at + decimals::put_number(&mut out[at..], n)
 }
 
 // The bytes of a name at a place of out.

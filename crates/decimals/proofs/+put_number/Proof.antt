@@ -1,4 +1,4 @@
--- `writers::put_number` meets its contract.
+-- `decimals::put_number` meets its contract.
 use mathlib.Core.Path.{_≡_, sym, ap}
 use lib.ListN.{length, length-set}
 use Rattle.text.specs.Written.{decimal}
@@ -8,11 +8,11 @@ use borrow.Author.Needs.{needs}
 use Prim.Native.Nat.{ℕ, _<_, _≤_, _/_}
 use borrow.Fn.Kinds.{In}
 use borrow.Fn.PlainCycle.{Measures, is, falls, and}
-use Rattle.writers.proofs.put_number.Reads as put-number
-use Rattle.writers.proofs.put_number.Kinds as put-number-kinds
-use Rattle.writers.proofs.+put_number.Lts-put_number as put-number-lts
-use Rattle.writers.proofs.+put_number.{statement}
-use Rattle.writers.proofs.+put_number.Tie.{close}
+use Rattle.decimals.proofs.put_number.Reads as put-number
+use Rattle.decimals.proofs.put_number.Kinds as put-number-kinds
+use Rattle.decimals.proofs.+put_number.Lts-put_number as put-number-lts
+use Rattle.decimals.proofs.+put_number.{statement}
+use Rattle.decimals.proofs.+put_number.Tie.{close}
 
 abbrev μ-put-number : Measures 1 put-number-kinds.ps ℕ
 μ-put-number κs a = a .1 .0
