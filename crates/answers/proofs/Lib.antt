@@ -1,3 +1,4 @@
 pub mod Listings
 pub mod Packing
+pub mod Small
 pub mod Determined

@@ -1,4 +1,4 @@
--- Laws of a listing that was to be written: how each of the two ends is reached.
+-- Laws of a listing that was to be written: how each of the two ends is reached, and what it tells.
 use Prim.Native.Nat.{ℕ, _<_, _≤_}
 use mathlib.Core.Path.{_≡_, ap, _∙_, refl}
 use mathlib.Core.List.{List}
@@ -6,7 +6,7 @@ use lib.ListN.{length}
 use native.Mathlib.Omega.{arith}
 use Rattle.text.specs.Written.{Wrote}
 use Rattle.answers.specs.declared.Answer.{Answer}
-use Rattle.answers.specs.Answers.{noRoom, finished, Listed}
+use Rattle.answers.specs.Answers.{refusedAt, noRoom, finished, Refused, Listed}
 
 -- there is no room, and nothing was written
 pub listing-refused : (listing old : List ℕ) (needed : ℕ) (r : Answer) → needed ≡ length listing → length old < needed → r ≡ noRoom needed
@@ -19,3 +19,17 @@ pub listing-written : (listing old new : List ℕ) (n : ℕ) (r : Answer) → le
     → Listed listing old new r
 listing-written listing old new n r h w q =
     record { no-room = λ k. absurd (omega arith); room = λ k. record { answer = q ∙ ap finished (w .count); bytes = w .bytes } }
+
+-- there was room, and the listing was written
+pub listed-wrote : (listing old new : List ℕ) (r : Answer) → length listing ≤ length old → Listed listing old new r → (r .number ≡ 0) × Wrote listing old new (r .length)
+unfolding finished
+listed-wrote listing old new r h l =
+    let w = l .room h in
+    (ap (λ (a : Answer). a .number) (w .answer), record { count = ap (λ (a : Answer). a .length) (w .answer); bytes = w .bytes })
+
+-- a refusal, and what is written for it
+pub refused-parts : (number paper line : ℕ) (old new : List ℕ) (r : Answer) → Refused number paper line old new r
+    → (r .number ≡ number) × (r .paper ≡ paper) × (r .line ≡ line)
+unfolding refusedAt
+refused-parts number paper line old new r w =
+    (ap (λ (a : Answer). a .number) (w .answer), ap (λ (a : Answer). a .paper) (w .answer), ap (λ (a : Answer). a .line) (w .answer))

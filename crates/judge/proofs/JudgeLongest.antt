@@ -21,11 +21,11 @@ use Rattle.bounds.proofs.Bounds.{protocol-low, mapping-low}
 use Rattle.answers.specs.declared.Answer.{Answer}
 use Rattle.answers.specs.Answers.{Small, Unpacked}
 use Rattle.answers.proofs.Packing.{unpack}
+use Rattle.answers.proofs.Small.{small-refused, small-listed}
 use Rattle.judge_listing.specs.JudgeText.{ShownStep}
 use Rattle.fit_listing.proofs.Lengths.{fit-length}
 use Rattle.judge_listing.proofs.Longest.{longest-unfit}
 use Rattle.verdicts.specs.Verdicts.{mappingOf}
-use Rattle.plan.proofs.PlanLongest.{small-refused, small-listed}
 use Rattle.judge.specs.Call.{Shows, ShowsAll, mappedFor, AfterProtocol}
 use Rattle.judge.specs.Longest.{JudgeLength, JudgeSmall, JudgeUnpacked}
 

@@ -1,4 +1,3 @@
 pub mod JudgeLaws
-pub mod Promises
 pub mod Determined
 pub mod JudgeLongest

@@ -1,4 +1,3 @@
 pub mod Call
-pub mod Promises
 pub mod Determined
 pub mod Longest

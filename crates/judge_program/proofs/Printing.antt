@@ -20,7 +20,7 @@ use Rattle.answers.specs.Answers.{Refused}
 use Rattle.refused_text.specs.RefusedText.{refusedText}
 use Rattle.refused_text.proofs.RefusedLength.{refused-short}
 use Rattle.verdicts.specs.Verdicts.{mappingOf}
-use Rattle.plan_program.proofs.Printing.{listed-wrote, refused-parts}
+use Rattle.answers.proofs.Listings.{listed-wrote, refused-parts}
 use Rattle.judge.specs.Call.{Judged, mappedFor, Call}
 use Rattle.judge_program.specs.Printed.{JudgePrinted}
 use Rattle.judge.proofs.JudgeLongest.{judge-length}

@@ -1,15 +1,14 @@
 -- What was found out and written is a plan.
-use Prim.Native.Nat.{ℕ, _<_, _≤_}
+use Prim.Native.Nat.{ℕ, _≤_}
 use mathlib.Core.Path.{_≡_, refl, ap, sym, _∙_, subst}
 use mathlib.Core.Logic.{_≢_, inl, inr, ⊎-elim}
 use mathlib.Core.List.{List}
 use native.Mathlib.Omega.{arith}
 use lib.ListN.{take}
 use Rattle.tables.specs.declared.Tables.{Tables}
-use Rattle.tables.specs.Cells.{relationsOfTables, TablesOk}
+use Rattle.tables.specs.Cells.{relationsOfTables}
 use Rattle.whole.specs.declared.Reading.{Reading}
 use Rattle.protocol.specs.Reading.{readProtocol}
-use Rattle.protocol_laws.proofs.Accepted.{accepted-kept}
 use Rattle.answers.specs.declared.Answer.{Answer}
 use Rattle.answers.specs.Answers.{refusedAt, Listed}
 use Rattle.plan_listing.specs.PlanText.{classThree, classTwo, firstMessages, firstNetworks, MessagesBelow}
@@ -68,11 +67,6 @@ module _ (text : List ℕ) (x : Reading) (is : x ≡ readProtocol text) where
         refused = λ n. record { answer = e ∙ ap (λ (y : Reading). refusedAt (y .number) 0 (y .line)) is; bytes = refl };
         planned = λ z. absurd (h (ap (λ (y : Reading). y .number) is ∙ z));
       }
-
-  pub call-ready : x .number ≡ 0 → TablesOk (x .tables) × (0 < x .tables .«message_count»)
-  call-ready z =
-      let good = accepted-kept text (ap (λ (y : Reading). y .number) (sym is) ∙ z) in
-      subst (λ (y : Reading). TablesOk (y .tables) × (0 < y .tables .«message_count»)) (sym is) (good .kept .ok, good .some)
 
   pub call-planned : x .number ≡ 0 → (old new : List ℕ) (r : Answer) → Planned (x .tables) old new r → Call text old new r
   call-planned z old new r p =

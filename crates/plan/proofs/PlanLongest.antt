@@ -24,9 +24,9 @@ use Rattle.protocol_laws.proofs.Accepted.{accepted-kept}
 use Rattle.bounds.specs.Bounds.{Named}
 use Rattle.bounds.proofs.NamesKept.{names-kept}
 use Rattle.bounds.proofs.Bounds.{protocol-low}
-use Rattle.answers.specs.declared.Answer.{Answer}
-use Rattle.answers.specs.Answers.{refusedAt, noRoom, finished, Listed, Small, shownLength, pickNumber, Unpacked}
+use Rattle.answers.specs.Answers.{Small, Unpacked}
 use Rattle.answers.proofs.Packing.{unpack}
+use Rattle.answers.proofs.Small.{small-refused, small-listed}
 use Rattle.plan_listing.specs.Lengths.{ShortNames}
 use Rattle.plan_listing.proofs.Longest.{longest-maps, longest-cycle}
 use Rattle.plan.specs.Call.{PlanListing}
@@ -104,26 +104,6 @@ plan-length text listing e l = go l
         omega (arith, ap length (w .is), most)
 
 -- ---- the answer
-
-pub small-refused : (number paper line : ℕ) (r : Answer) → number ≤ 15 → paper < 256 → line ≤ 49153 → r ≡ refusedAt number paper line → Small r
-unfolding refusedAt shownLength
-small-refused number paper line r h k g e = subst Small (sym e) (record { number = omega (arith, h); paper = k; line = omega (arith, g); length = go (eqb number 16) })
-  where
-    go : (b : Bool) → pickNumber b 0 0 < 65536
-    go true = omega arith
-    go false = omega arith
-
-pub small-listed : (listing old new : List ℕ) (r : Answer) → length listing < 65536 → Listed listing old new r → Small r
-unfolding noRoom finished shownLength
-small-listed listing old new r h l = go (ltb (length old) (length listing)) refl
-  where
-    go : (b : Bool) → ltb (length old) (length listing) ≡ b → Small r
-    go true e =
-        subst Small (sym (l .no-room (ltb-true (length old) (length listing) e) .answer))
-        (record { number = omega arith; paper = omega arith; line = omega arith; length = h })
-    go false e =
-        subst Small (sym (l .room (ltb-false (length old) (length listing) e) .answer))
-        (record { number = omega arith; paper = omega arith; line = omega arith; length = h })
 
 pub plan-small : PlanSmall
 plan-small text old new r c = go (eqb (readProtocol text .number) 0) refl

@@ -5,45 +5,20 @@ use mathlib.Core.Logic.{_≢_}
 use mathlib.Core.Bool.{Bool, true, false}
 use mathlib.Core.List.{List}
 use native.Mathlib.Omega.{arith}
-use lib.ListN.{length, take, drop, length-append}
-use lib.Seq.{length-take-le}
+use lib.ListN.{length}
 use lib.Dec.{eqb}
 use borrow.Author.Tests.{eqb-true, eqb-false}
 use Rattle.text.specs.Written.{Wrote}
 use Rattle.protocol.specs.Reading.{readProtocol}
 use Rattle.bounds.proofs.Bounds.{protocol-low}
 use Rattle.answers.specs.declared.Answer.{Answer}
-use Rattle.answers.specs.Answers.{refusedAt, finished, Refused, Listed}
+use Rattle.answers.specs.Answers.{Refused}
+use Rattle.answers.proofs.Listings.{listed-wrote, refused-parts}
 use Rattle.refused_text.specs.RefusedText.{refusedText}
 use Rattle.refused_text.proofs.RefusedLength.{refused-short}
 use Rattle.plan.specs.Call.{Call}
 use Rattle.plan_program.specs.Printed.{PlanPrinted}
 use Rattle.plan.proofs.PlanLongest.{plan-length}
-
--- ---- answers, whatever they are about
-
--- what is written counts bytes at the front
-pub wrote-within : (text old new : List ℕ) (n : ℕ) → Wrote text old new n → n ≤ length new
-wrote-within text old new n w = omega (arith, w .count, ap length (w .bytes), length-append text (drop (length text) old))
-
-pub wrote-counts : (text old new : List ℕ) (n : ℕ) → Wrote text old new n → n ≡ length (take n new)
-wrote-counts text old new n w = sym (length-take-le n new (wrote-within text old new n w))
-
--- there was room, and the listing was written
-pub listed-wrote : (listing old new : List ℕ) (r : Answer) → length listing ≤ length old → Listed listing old new r → (r .number ≡ 0) × Wrote listing old new (r .length)
-unfolding finished
-listed-wrote listing old new r h l =
-    let w = l .room h in
-    (ap (λ (a : Answer). a .number) (w .answer), record { count = ap (λ (a : Answer). a .length) (w .answer); bytes = w .bytes })
-
--- a refusal, and what is written for it
-pub refused-parts : (number paper line : ℕ) (old new : List ℕ) (r : Answer) → Refused number paper line old new r
-    → (r .number ≡ number) × (r .paper ≡ paper) × (r .line ≡ line)
-unfolding refusedAt
-refused-parts number paper line old new r w =
-    (ap (λ (a : Answer). a .number) (w .answer), ap (λ (a : Answer). a .paper) (w .answer), ap (λ (a : Answer). a .line) (w .answer))
-
--- ---- the plan
 
 module _ (text old new : List ℕ) (r : Answer) (room : 2048 ≤ length old) (c : Call text old new r) where
   -- a plan has number 0

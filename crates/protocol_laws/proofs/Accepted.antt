@@ -1,8 +1,8 @@
 -- A text that is accepted gives tables to reason about: numbers in range, what is past a count as cleared, and a message.
 use Prim.Native.Nat.{ℕ, _<_}
-use mathlib.Core.Path.{_≡_, refl, sym, subst}
+use mathlib.Core.Path.{_≡_, refl, sym, ap, _∙_, subst}
 use mathlib.Core.Bool.{false}
-use mathlib.Core.List.{[], _∷_}
+use mathlib.Core.List.{List, [], _∷_}
 use native.Mathlib.Omega.{arith}
 use lib.Dec.{eqb, ltb}
 use borrow.Author.Tests.{eqb-false, ltb-false}
@@ -10,11 +10,13 @@ use Rattle.rules.specs.Rules.{NoEntry}
 use Rattle.papers.specs.Checks.{check}
 use Rattle.papers.proofs.Checks.{passed-by}
 use Rattle.tables.specs.declared.Tables.{Tables}
-use Rattle.tables.specs.Cells.{cellsOf}
+use Rattle.tables.specs.Cells.{cellsOf, TablesOk}
 use Rattle.tables.specs.Relations.{cellAt}
 use Rattle.tables.proofs.InRange.{relations-accepted}
+use Rattle.whole.specs.declared.Reading.{Reading}
 use Rattle.whole.specs.Whole.{noEntryAt, cellLine, wholeRefusal}
 use Rattle.whole.specs.Kept.{Kept}
+use Rattle.protocol.specs.Reading.{readProtocol}
 use Rattle.protocol_laws.specs.Promises.{atEnd, AcceptedReading, AcceptedKept}
 use Rattle.whole.proofs.Whole.{first-no-entry}
 use Rattle.protocol_laws.proofs.Why.{all-read, kept-end}
@@ -40,3 +42,9 @@ accepted-kept text z =
     let k = kept-end text (w .before) in
     let some = some-message t (w .whole) in
     subst AcceptedReading (sym (w .is)) (record { line = refl; kept = k; some = some; entries = all-entries t (w .whole) k; relations = relations-accepted t (k .ok) some })
+
+-- what a call asks of the tables that it got
+pub call-ready : (text : List ℕ) (x : Reading) → x ≡ readProtocol text → x .number ≡ 0 → TablesOk (x .tables) × (0 < x .tables .«message_count»)
+call-ready text x is z =
+    let good = accepted-kept text (ap (λ (y : Reading). y .number) (sym is) ∙ z) in
+    subst (λ (y : Reading). TablesOk (y .tables) × (0 < y .tables .«message_count»)) (sym is) (good .kept .ok, good .some)

@@ -18,6 +18,13 @@ use Rattle.text.specs.Written.{wrote, Wrote, Pasted, pickText, digitsIn,
 pub length-wrote : (p old : List ℕ) → length p ≤ length old → length (wrote p old) ≡ length old
 length-wrote p old h = simp (length-append, length-drop) (omega arith)
 
+-- what was written counts bytes at the front
+pub wrote-within : (text old new : List ℕ) (n : ℕ) → Wrote text old new n → n ≤ length new
+wrote-within text old new n w = omega (arith, w .count, ap length (w .bytes), length-append text (drop (length text) old))
+
+pub wrote-counts : (text old new : List ℕ) (n : ℕ) → Wrote text old new n → n ≡ length (take n new)
+wrote-counts text old new n w = sym (length-take-le n new (wrote-within text old new n w))
+
 -- one byte more
 pub wrote-snoc : (p old : List ℕ) (x n : ℕ) → n ≡ length p → n < length old → set (wrote p old) n x ≡ wrote (p ++ (x ∷ [])) old
 wrote-snoc p old x n e h =

@@ -1,6 +1,7 @@
 -- `plan::plan` meets its contract.
 use borrow.Author.Needs.{needs}
-use Rattle.plan.proofs.PlanLaws.{call-refused, call-ready, call-planned}
+use Rattle.protocol_laws.proofs.Accepted.{call-ready}
+use Rattle.plan.proofs.PlanLaws.{call-refused, call-planned}
 use Rattle.plan.proofs.plan.Statement.{statement}
 use Rattle.plan.proofs.plan.Tie as tie
 

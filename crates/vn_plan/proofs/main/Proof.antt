@@ -1,6 +1,6 @@
 -- `vn_plan::main` is safe and ends. What it prints is proved of `plan_program::print_plan`.
 use borrow.Author.Needs.{needs}
-use Rattle.plan_program.proofs.Printing.{wrote-within, wrote-counts}
+use Rattle.text.proofs.Written.{wrote-within, wrote-counts}
 use Rattle.vn_plan.proofs.main.Statement.{statement}
 use Rattle.vn_plan.proofs.main.Tie as tie
 

@@ -29,8 +29,8 @@ use Rattle.bounds.specs.Bounds.{Named}
 use Rattle.bounds.proofs.NamesKept.{names-kept}
 use Rattle.plan.proofs.PlanLongest.{networks-below}
 use Rattle.plan.specs.Call.{Three, Two}
 use Rattle.judge.specs.Call.{FitListing, UnfitListing}
-use Rattle.judge.specs.Promises.{tablesOf, mapped, JudgedFit, JudgedUnfit, TextUses, ThreeKept, TwoKept, PlansKept}
+use Rattle.promises.specs.Promises.{tablesOf, mapped, JudgedFit, JudgedUnfit, TextUses, ThreeKept, TwoKept, PlansKept}
 
 -- ---- an accepted protocol
 

@@ -1,0 +1,31 @@
+-- The numbers of an answer are small where those it is made of are.
+use Prim.Native.Nat.{ℕ, _<_, _≤_}
+use mathlib.Core.Path.{_≡_, refl, sym, subst}
+use mathlib.Core.Bool.{Bool, true, false}
+use mathlib.Core.List.{List}
+use native.Mathlib.Omega.{arith}
+use lib.ListN.{length}
+use lib.Dec.{eqb, ltb}
+use borrow.Author.Tests.{ltb-true, ltb-false}
+use Rattle.answers.specs.declared.Answer.{Answer}
+use Rattle.answers.specs.Answers.{refusedAt, noRoom, finished, Listed, Small, shownLength, pickNumber}
+
+pub small-refused : (number paper line : ℕ) (r : Answer) → number ≤ 15 → paper < 256 → line ≤ 49153 → r ≡ refusedAt number paper line → Small r
+unfolding refusedAt shownLength
+small-refused number paper line r h k g e = subst Small (sym e) (record { number = omega (arith, h); paper = k; line = omega (arith, g); length = go (eqb number 16) })
+  where
+    go : (b : Bool) → pickNumber b 0 0 < 65536
+    go true = omega arith
+    go false = omega arith
+
+pub small-listed : (listing old new : List ℕ) (r : Answer) → length listing < 65536 → Listed listing old new r → Small r
+unfolding noRoom finished shownLength
+small-listed listing old new r h l = go (ltb (length old) (length listing)) refl
+  where
+    go : (b : Bool) → ltb (length old) (length listing) ≡ b → Small r
+    go true e =
+        subst Small (sym (l .no-room (ltb-true (length old) (length listing) e) .answer))
+        (record { number = omega arith; paper = omega arith; line = omega arith; length = h })
+    go false e =
+        subst Small (sym (l .room (ltb-false (length old) (length listing) e) .answer))
+        (record { number = omega arith; paper = omega arith; line = omega arith; length = h })
