@@ -10,6 +10,9 @@ use Rattle.determined.specs.Determined.{Determines, DeterminesLent}
 use Rattle.determined.proofs.Equal.{equal}
 use Rattle.answers.specs.declared.Answer.{Answer}
 use Rattle.answers.specs.Answers.{refusedAt, noRoom, finished, packedAnswer, Refused, Listed}
+use Rattle.text.specs.Written.{Wrote}
+use Rattle.text.proofs.Determined.{wrote-determined}
+use Rattle.answers.specs.refused_text.RefusedText.{refusedText}
 
 pub refused-determined : (number paper line : ℕ) → Determines (λ (r : Answer). r ≡ refusedAt number paper line)
 refused-determined number paper line = equal _
@@ -43,3 +46,8 @@ listed-determined listing old new new′ r r′ v w = go (ltb (length old) (leng
     go : (t : Bool) → ltb (length old) (length listing) ≡ t → (r ≡ r′) × (new ≡ new′)
     go true e = short listing old new new′ r r′ v w (ltb-true (length old) (length listing) e)
     go false e = long listing old new new′ r r′ v w (ltb-false (length old) (length listing) e)
+
+-- ---- What the contract allows is one answer: two results that meet it are equal, and so is every lent byte.
+
+pub put-refused-determined : (number paper line : ℕ) (old : List ℕ) → DeterminesLent (Wrote (refusedText number paper line) old)
+put-refused-determined number paper line = wrote-determined (refusedText number paper line)

@@ -1,4 +1,6 @@
 // What the calls on texts answer, and how a host gets it as one number.
+pub mod refused_text;
+
 ghost use mathlib.Core.Path.{_≡_};
 ghost use Rattle.answers.specs.Answers.{refusedAt, noRoom, finished, Small, shownLength, packedAnswer};
 

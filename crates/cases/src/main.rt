@@ -23,10 +23,10 @@ ghost use lib.ListN.{length};
 ghost use Rattle.tables.specs.Cells.{TablesOk};
 ghost use Rattle.cases.specs.Fit.{Fit};
 use mapping::Mapped;
+use protocol::whole::Reading;
 use rules::Network;
 use tables::MessageRow;
 use tables::Tables;
-use whole::Reading;
 
 // What stands for a byte where the input has ended.
 const ENDED: usize = 256;
@@ -148,8 +148,8 @@ fn print_tables(t: Tables)
     print_number(t.event_count);
     print_number(t.state_count);
     print_number(t.cell_count);
-    let causes = causing::causes_rows(t);
-    let stalls = stalling::stalls_rows(t);
+    let causes = table_rows::causes::causes_rows(t);
+    let stalls = table_rows::stalls::stalls_rows(t);
     print_word(b" causes");
     print_rows(causes, t.message_count);
     print_word(b" stalls");

@@ -1,18 +1,18 @@
--- What is told of a cell's line leaves one answer.
+-- The public contract determines what the function gives back.
 use Prim.Native.Nat.{ℕ}
 use mathlib.Core.Path.{_≡_, refl, sym, _∙_}
-use mathlib.Core.Bool.{Bool, true, false}
 use mathlib.Core.List.{List}
-use lib.Dec.{eqb}
-use borrow.Author.Tests.{eqb-true, eqb-false}
 use Rattle.determined.specs.Determined.{Determines}
+use mathlib.Core.Bool.{Bool, true, false}
 use Rattle.tables.specs.declared.MessageRow.{MessageRow}
 use Rattle.tables.specs.declared.EventRow.{EventRow}
 use Rattle.tables.specs.declared.StateRow.{StateRow}
-use Rattle.tables.specs.declared.Cell.{Cell}
 use Rattle.tables.specs.Given.{Declared}
 use Rattle.tables.proofs.Given.{given, given-declared}
-use Rattle.records.proofs.Numbers.{refuses-one}
+use Rattle.tables.specs.declared.Cell.{Cell}
+use lib.Dec.{eqb}
+use borrow.Author.Tests.{eqb-true, eqb-false}
+use Rattle.lines.proofs.Numbers.{refuses-one}
 use Rattle.cells.specs.declared.CellLine.{CellLine}
 use Rattle.cells.specs.Told.{CellTold}
 

@@ -20,16 +20,16 @@ use Rattle.tables.specs.declared.StateRow.{StateRow}
 use Rattle.tables.specs.declared.Cell.{Cell}
 use Rattle.tables.specs.declared.Tables.{Tables}
 use Rattle.tables.specs.Cells.{number, TriggerOk, OutcomeOk, CellOk, sentOf as numbersOf}
-use Rattle.names.specs.Names.{messageAt, eventAt, stateAt, isMessage, isEvent, isState}
-use Rattle.records.specs.Line.{Line, field, says, cell, cellController, messageNo, triggerOf, outcomeOf, sentFields, sentOf, cellOf}
-use Rattle.records.specs.Checks.{shaped, isTrigger, isCache, allMessages, knownCell, stallInStable, conflict}
-use Rattle.records.proofs.Numbers.{lineNumber, refuses, refuses-one}
-use Rattle.records.proofs.Sections.{a-cell}
-use Rattle.records.proofs.Both.{and-left, and-right}
+use Rattle.tables.specs.names.Names.{messageAt, eventAt, stateAt, isMessage, isEvent, isState}
+use Rattle.lines.specs.Line.{Line, field, says, cell, cellController, messageNo, triggerOf, outcomeOf, sentFields, sentOf, cellOf}
+use Rattle.lines.specs.Checks.{shaped, isTrigger, isCache, allMessages, knownCell, stallInStable, conflict}
+use Rattle.lines.proofs.Numbers.{lineNumber, refuses, refuses-one}
+use Rattle.lines.proofs.Sections.{a-cell}
+use Rattle.lines.proofs.Both.{and-left, and-right}
 use Rattle.cells.specs.declared.CellLine.{CellLine}
 use Rattle.cells.specs.Told.{CellTold}
-use Rattle.cell_shapes.specs.Shape.{Stalls, Goes}
-use Rattle.cell_shapes.proofs.Shapes.{shaped-way}
+use Rattle.cells.specs.shapes.Shape.{Stalls, Goes}
+use Rattle.cells.proofs.shapes.Shapes.{shaped-way}
 use Rattle.cells.proofs.Judging.{in-order}
 use Rattle.tables.proofs.Given.{given, given-declared}
 

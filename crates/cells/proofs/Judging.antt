@@ -16,18 +16,18 @@ use Rattle.tables.specs.declared.Cell.{Cell}
 use Rattle.tables.specs.declared.Tables.{Tables}
 use Rattle.tables.specs.Tables.{noCell}
 use Rattle.tables.specs.Clash.{anyClash}
-use Rattle.records.specs.Line.{Line, says, cell}
-use Rattle.records.specs.Checks.{shaped, knownCell, stallInStable, conflict}
-use Rattle.records.proofs.Numbers.{eightOf, lineNumber, refuses}
-use Rattle.records.proofs.Sections.{a-cell}
-use Rattle.readings.specs.declared.Reading.{Reading}
+use Rattle.lines.specs.Line.{Line, says, cell}
+use Rattle.lines.specs.Checks.{shaped, knownCell, stallInStable, conflict}
+use Rattle.lines.proofs.Numbers.{eightOf, lineNumber, refuses}
+use Rattle.lines.proofs.Sections.{a-cell}
+use Rattle.cells.specs.declared.readings.Reading.{Reading}
 use Rattle.cells.specs.declared.CellLine.{CellLine}
-use Rattle.cell_shapes.specs.declared.Shape.the-variants.{Wrong}
-use Rattle.cell_shapes.specs.Shape.{shapeOf}
-use Rattle.readings.specs.Known.{CellRead}
+use Rattle.cells.specs.declared.shapes.Shape.the-variants.{Wrong}
+use Rattle.cells.specs.shapes.Shape.{shapeOf}
+use Rattle.cells.specs.readings.Known.{CellRead}
 use Rattle.tables.specs.Given.{Declared}
 use Rattle.cells.specs.Told.{CellTold, refusedLine, judgedNumber, Judged}
-use Rattle.cell_shapes.proofs.Shapes.{wrong-shape}
+use Rattle.cells.proofs.shapes.Shapes.{wrong-shape}
 
 -- ---- what is read of the line
 

@@ -14,9 +14,9 @@ use Rattle.tables.specs.declared.Tables.{Tables}
 use Rattle.tables.specs.Tables.{noCell}
 use Rattle.tables.specs.Clash.{anyClash}
 use Rattle.tables.specs.Given.{Declared}
-use Rattle.records.specs.Line.{cellOf}
-use Rattle.records.specs.Told.{Refuses}
-use Rattle.readings.specs.declared.Reading.{Reading}
+use Rattle.lines.specs.Line.{cellOf}
+use Rattle.lines.specs.Told.{Refuses}
+use Rattle.cells.specs.declared.readings.Reading.{Reading}
 use Rattle.cells.specs.declared.CellLine.{CellLine}
 
 pub record CellTold

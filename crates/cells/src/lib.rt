@@ -1,14 +1,19 @@
 // A cell's line of a protocol text: how it is refused, and the cell it stands for.
+pub mod places;
+pub mod readings;
+pub mod shapes;
+pub mod targets;
+
 ghost use mathlib.Core.Path.{_≡_};
 ghost use mathlib.Core.Bool.{true};
 ghost use Prim.Native.Nat.{_≤_};
 ghost use Rattle.text.specs.Parts.{split};
 ghost use Rattle.text.specs.Words.{cellWord};
-ghost use Rattle.records.specs.Line.{says};
-ghost use Rattle.records.specs.Told.{FieldsAre};
+ghost use Rattle.lines.specs.Line.{says};
+ghost use Rattle.lines.specs.Told.{FieldsAre};
 ghost use Rattle.cells.specs.Told.{CellTold, refusedLine, Judged};
-use cell_shapes::Shape;
-use readings::Reading;
+use crate::readings::Reading;
+use crate::shapes::Shape;
 use tables::Cell;
 use tables::EventRow;
 use tables::MessageRow;
@@ -47,7 +52,7 @@ fn judged(at: Reading, cells: [Cell; 512], count: usize) -> CellLine
         return refused(10);
     }
     let cell = at.cell;
-    if conflicts::any_clash(cells, count, cell) {
+    if tables::conflicts::any_clash(cells, count, cell) {
         return refused(11);
     }
     CellLine {
@@ -72,11 +77,11 @@ pub fn cell_line(
     requires { ⌜ FieldsAre (now line) f × (says (split 9 (now line)) 0 cellWord ≡ true) × («message_count» ≤ 32) × («event_count» ≤ 8) × («state_count» ≤ 64) × (count ≤ 512) ⌝ }
     ensures { λ r. ⌜ CellTold (now (line .entry)) messages «message_count» events «event_count» states «state_count» cells count r ⌝ }
 {
-    let shape = cell_shapes::shape_of(line, f);
+    let shape = crate::shapes::shape_of(line, f);
     match shape {
         Shape::Wrong => refused(4),
         Shape::Stall(whose) => {
-            let at = stall_cells::stall_of(
+            let at = crate::readings::stall_of(
                 line,
                 f,
                 whose,
@@ -90,7 +95,7 @@ pub fn cell_line(
             judged(at, cells, count)
         }
         Shape::Go(whose) => {
-            let at = go_cells::go_of(
+            let at = crate::readings::go_of(
                 line,
                 f,
                 whose,

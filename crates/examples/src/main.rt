@@ -17,7 +17,7 @@ fn planned(file: &[u8]) {
     let mut text = [0u8; MOST];
     let n = files::read_file(file, &mut text);
     let mut out = [0u8; ROOM];
-    let k = plan_program::print_plan(&text[..n], &mut out);
+    let k = plan::program::print_plan(&text[..n], &mut out);
     io::write_all(1, &out[..k]);
 }
 
@@ -27,7 +27,7 @@ fn judged(file: &[u8], other: &[u8]) {
     let mut mapping = [0u8; MOST];
     let m = files::read_file(other, &mut mapping);
     let mut out = [0u8; ROOM];
-    let k = judge_program::print_judgement(&protocol[..n], &mapping[..m], &mut out);
+    let k = judge::program::print_judgement(&protocol[..n], &mapping[..m], &mut out);
     io::write_all(1, &out[..k]);
 }
 

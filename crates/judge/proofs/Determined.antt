@@ -14,12 +14,16 @@ use Rattle.tables.specs.declared.Tables.{Tables}
 use Rattle.tables.specs.Cells.{relationsOfTables}
 use Rattle.protocol.specs.Reading.{readProtocol}
 use Rattle.answers.specs.declared.Answer.{Answer}
-use Rattle.answers.specs.Answers.{Listed, packedAnswer}
+use Rattle.answers.specs.Answers.{Listed}
 use Rattle.judge_listing.specs.JudgeText.{ShownStep, unfitText}
 use Rattle.verdicts.specs.Verdicts.{mappingOf}
 use Rattle.answers.proofs.Determined.{refusal-determined, listed-determined}
 use Rattle.judge.specs.Call.{Shows, ShowsAll, UnfitListing, JudgeListing, Judged, mappedFor, AfterProtocol}
-use Rattle.judge.specs.Determined.{JudgeDetermined, PackedDetermined}
+use Rattle.judge.specs.Determined.{JudgeDetermined}
+use Rattle.text.specs.Written.{Wrote}
+use Rattle.text.proofs.Determined.{wrote-determined}
+use Rattle.judge.specs.program.Printed.{MappingPrinted}
+use Rattle.judge.specs.program.Determined.{PrintedDetermined}
 
 -- ---- the steps
 
@@ -85,7 +89,21 @@ judge-determined x y old new₁ new₂ r s c d = go (eqb (readProtocol x .number
         let n = eqb-false (readProtocol x .number) 0 e in
         refusal-determined (readProtocol x .number) 0 (readProtocol x .line) old new₁ new₂ r s (c .protocol-refused n) (d .protocol-refused n)
 
-pub packed-determined : PackedDetermined
-packed-determined x y old new₁ new₂ j k v w =
-    let q = judge-determined x y old new₁ new₂ (v .answer) (w .answer) (v .call) (w .call) in
-    (v .is ∙ ap packedAnswer (q .0) ∙ sym (w .is), q .1)
+-- ---- What the judging program prints is determined: the count and the lent bytes.
+
+mapping-printed-one : (t : Tables) (y l m : List ℕ) → MappingPrinted t y l → MappingPrinted t y m → l ≡ m
+mapping-printed-one t y l m v w = go (eqb (mappedFor t y .number) 0) refl
+  where
+    go : (b : Bool) → eqb (mappedFor t y .number) 0 ≡ b → l ≡ m
+    go true e = let a = eqb-true (mappedFor t y .number) 0 e in listing-one t (mappingOf (mappedFor t y .networks)) l m (v .judged a) (w .judged a)
+    go false e = let n = eqb-false (mappedFor t y .number) 0 e in v .mapping-refused n ∙ sym (w .mapping-refused n)
+
+pub printed-determined : PrintedDetermined
+printed-determined x y old new₁ new₂ j k v w =
+    wrote-determined (v .printed) old new₁ new₂ j k (v .wrote) (subst (λ (l : List ℕ). Wrote l old new₂ k) (same (eqb (readProtocol x .number) 0) refl) (w .wrote))
+  where
+    same : (b : Bool) → eqb (readProtocol x .number) 0 ≡ b → w .printed ≡ v .printed
+    same true e =
+        let z = eqb-true (readProtocol x .number) 0 e in
+        mapping-printed-one (readProtocol x .tables) y (w .printed) (v .printed) (w .protocol-accepted z) (v .protocol-accepted z)
+    same false e = let n = eqb-false (readProtocol x .number) 0 e in w .protocol-refused n ∙ sym (v .protocol-refused n)

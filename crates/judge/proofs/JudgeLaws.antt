@@ -15,13 +15,13 @@ use Rattle.rules.proofs.Promises.{shown-is-real}
 use Rattle.tables.specs.declared.Tables.{Tables}
 use Rattle.tables.specs.Cells.{relationsOfTables}
 use Rattle.answers.specs.declared.Answer.{Answer}
-use Rattle.whole.specs.declared.Reading.{Reading}
+use Rattle.protocol.specs.declared.whole.Reading.{Reading}
 use Rattle.protocol.specs.Reading.{readProtocol}
 use Rattle.mapping.specs.declared.Mapped.{Mapped}
 use Rattle.answers.specs.Answers.{refusedAt, Listed}
 use Rattle.plan_listing.specs.PlanText.{firstMessages}
-use Rattle.fit_listing.specs.FitText.{fitText}
-use Rattle.step_lines.specs.StepLine.{pickWord}
+use Rattle.judge_listing.specs.fit.FitText.{fitText}
+use Rattle.judge_listing.specs.step_lines.StepLine.{pickWord}
 use Rattle.judge_listing.specs.JudgeText.{unfitText, wordIn, stepsFrom, stepsOf}
 use Rattle.judge_listing.specs.Steps.{GivenWalk, walkSteps}
 use Rattle.verdicts.specs.declared.Judged.{Judged as Found}

@@ -1,6 +1,6 @@
 -- How long a judgement's listing can be, and how large the numbers of an answer.
 use Prim.Native.Nat.{ℕ, suc, _≤_}
-use mathlib.Core.Path.{_≡_, refl, sym, ap, subst}
+use mathlib.Core.Path.{_≡_, refl, ap}
 use mathlib.Core.Logic.{_⊎_, inl, inr}
 use mathlib.Core.Bool.{Bool, true, false}
 use mathlib.Core.List.{List, [], _∷_, _++_}
@@ -15,19 +15,18 @@ use Rattle.rules.proofs.Promises.{every-judgement, determined, shown-is-real}
 use Rattle.tables.specs.Tables.{messagesOf}
 use Rattle.tables.specs.Cells.{relationsOfTables}
 use Rattle.protocol.specs.Reading.{readProtocol}
-use Rattle.protocol_laws.proofs.Accepted.{accepted-kept}
-use Rattle.bounds.proofs.NamesKept.{names-kept}
-use Rattle.bounds.proofs.Bounds.{protocol-low, mapping-low}
+use Rattle.reading_laws.proofs.protocols.Accepted.{accepted-kept}
+use Rattle.reading_laws.proofs.bounds.NamesKept.{names-kept}
+use Rattle.reading_laws.proofs.bounds.Bounds.{protocol-low, mapping-low}
 use Rattle.answers.specs.declared.Answer.{Answer}
-use Rattle.answers.specs.Answers.{Small, Unpacked}
-use Rattle.answers.proofs.Packing.{unpack}
+use Rattle.answers.specs.Answers.{Small}
 use Rattle.answers.proofs.Small.{small-refused, small-listed}
 use Rattle.judge_listing.specs.JudgeText.{ShownStep}
-use Rattle.fit_listing.proofs.Lengths.{fit-length}
+use Rattle.judge_listing.proofs.fit.Lengths.{fit-length}
 use Rattle.judge_listing.proofs.Longest.{longest-unfit}
 use Rattle.verdicts.specs.Verdicts.{mappingOf}
 use Rattle.judge.specs.Call.{Shows, ShowsAll, mappedFor, AfterProtocol}
-use Rattle.judge.specs.Longest.{JudgeLength, JudgeSmall, JudgeUnpacked}
+use Rattle.judge.specs.Longest.{JudgeLength, JudgeSmall}
 
 -- ---- as many steps as messages
 
@@ -80,6 +79,3 @@ judge-small x y old new r c = go (eqb (readProtocol x .number) 0) refl
     go false e =
         let low = protocol-low x in
         small-refused (readProtocol x .number) 0 (readProtocol x .line) r (low .0) (omega arith) (low .1) (c .protocol-refused (eqb-false (readProtocol x .number) 0 e) .answer)
-
-pub judge-unpacked : JudgeUnpacked
-judge-unpacked x y old new k p = subst (λ (j : ℕ). Unpacked j (p .answer)) (sym (p .is)) (unpack (p .answer) (judge-small x y old new (p .answer) (p .call)))

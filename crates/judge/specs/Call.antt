@@ -13,8 +13,8 @@ use Rattle.protocol.specs.Reading.{readProtocol}
 use Rattle.mapping.specs.declared.Mapped.{Mapped}
 use Rattle.mapping.specs.Reading.{readMapping}
 use Rattle.answers.specs.declared.Answer.{Answer}
-use Rattle.answers.specs.Answers.{Refused, Listed, packedAnswer}
-use Rattle.fit_listing.specs.FitText.{fitText}
+use Rattle.answers.specs.Answers.{Refused, Listed}
+use Rattle.judge_listing.specs.fit.FitText.{fitText}
 use Rattle.judge_listing.specs.JudgeText.{ShownStep, unfitText}
 use Rattle.verdicts.specs.Verdicts.{mappingOf}
 
@@ -73,9 +73,3 @@ pub record AfterProtocol (t : Tables) (mapping old new : List ℕ) (r : Answer) 
 pub record Call (protocol mapping old new : List ℕ) (r : Answer) : Type 0 where
   pub protocol-refused : readProtocol protocol .number ≢ 0 → Refused (readProtocol protocol .number) 0 (readProtocol protocol .line) old new r
   pub protocol-accepted : readProtocol protocol .number ≡ 0 → AfterProtocol (readProtocol protocol .tables) mapping old new r
-
--- The call from a host: the answer's numbers packed into one.
-pub record Packed (protocol mapping old new : List ℕ) (k : ℕ) : Type 0 where
-  pub answer : Answer
-  pub call : Call protocol mapping old new answer
-  pub is : k ≡ packedAnswer answer

@@ -2,11 +2,8 @@
 use Prim.Native.Nat.{ℕ}
 use mathlib.Core.List.{List}
 use Rattle.determined.specs.Determined.{DeterminesLent}
-use Rattle.judge.specs.Call.{Call, Packed}
+use Rattle.judge.specs.Call.{Call}
 
 -- Two answers that the contract allows are equal, and so are the lent bytes.
 abbrev pub JudgeDetermined : Type 0
 JudgeDetermined = (protocol mapping old : List ℕ) → DeterminesLent (Call protocol mapping old)
-
-abbrev pub PackedDetermined : Type 0
-PackedDetermined = (protocol mapping old : List ℕ) → DeterminesLent (Packed protocol mapping old)

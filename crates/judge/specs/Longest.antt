@@ -6,18 +6,14 @@ use lib.ListN.{length}
 use Rattle.rules.specs.Rules.{Mapping}
 use Rattle.protocol.specs.Reading.{readProtocol}
 use Rattle.answers.specs.declared.Answer.{Answer}
-use Rattle.answers.specs.Answers.{Small, Unpacked}
-use Rattle.judge.specs.Call.{JudgeListing, Call, Packed}
+use Rattle.answers.specs.Answers.{Small}
+use Rattle.judge.specs.Call.{JudgeListing, Call}
 
 abbrev pub JudgeLength : Type 0
 JudgeLength =
     (protocol listing : List ℕ) (φ : Mapping) → readProtocol protocol .number ≡ 0 →
     JudgeListing (readProtocol protocol .tables) φ listing → length listing ≤ 2001
 
--- So every number of an answer has its place in the packed number,
+-- So every number of an answer has its place in the packed number.
 abbrev pub JudgeSmall : Type 0
 JudgeSmall = (protocol mapping old new : List ℕ) (r : Answer) → Call protocol mapping old new r → Small r
-
--- and a host reads the answer out of it.
-abbrev pub JudgeUnpacked : Type 0
-JudgeUnpacked = (protocol mapping old new : List ℕ) (k : ℕ) (p : Packed protocol mapping old new k) → Unpacked k (p .answer)

@@ -1,10 +1,12 @@
 // The judging call: a protocol text and a mapping text in, a listing out.
+pub mod program;
+
 ghost use mathlib.Core.Path.{_≡_};
 ghost use Prim.Native.Nat.{_<_};
 ghost use Rattle.tables.specs.Cells.{TablesOk};
 ghost use Rattle.protocol.specs.Reading.{readProtocol};
 ghost use Rattle.verdicts.specs.Verdicts.{mappingOf};
-ghost use Rattle.judge.specs.Call.{Judged, AfterProtocol, Call, Packed};
+ghost use Rattle.judge.specs.Call.{Judged, AfterProtocol, Call};
 use answers::Answer;
 use rules::Network;
 use tables::Tables;
@@ -14,9 +16,9 @@ fn judge_tables(t: Tables, networks: [Network; 32], out: &mut [u8]) -> Answer
     requires { ⌜ TablesOk t × (0 < t .«message_count») ⌝ }
     ensures { λ r. ⌜ Judged t (mappingOf networks) (now (out .entry)) (now (out .exit)) r ⌝ }
 {
-    let found = judgement::judge_of(t, networks);
+    let found = verdicts::judgement::judge_of(t, networks);
     if found.length == 0 {
-        return fit_listing::fit_listing(out);
+        return judge_listing::fit::fit_listing(out);
     }
     let messages = t.messages;
     let cycle = found.cycle;
@@ -48,13 +50,4 @@ pub fn judge(protocol: &[u8], mapping: &[u8], out: &mut [u8]) -> Answer
     }
     let t = r.tables;
     judge_mapping(t, mapping, out)
-}
-
-// The judgement from a C host: the answer's numbers packed into one.
-#[no_mangle]
-pub extern "C" fn vn_judge_texts(protocol: &[u8], mapping: &[u8], out: &mut [u8]) -> u64
-    ensures { λ r. ⌜ Packed (now (protocol .entry)) (now (mapping .entry)) (now (out .entry)) (now (out .exit)) r ⌝ }
-{
-    let a = judge(protocol, mapping, out);
-    answers::packed(a)
 }

@@ -6,7 +6,7 @@ use lib.ListN.{length, length-append}
 use Rattle.rules.specs.Plan.{Word, waits, queues}
 use Rattle.tables.specs.declared.MessageRow.{MessageRow}
 use Rattle.plan_listing.specs.PlanText.{nameAt}
-use Rattle.step_lines.specs.StepLine.{stepLine, wordText}
+use Rattle.judge_listing.specs.step_lines.StepLine.{stepLine, wordText}
 use Rattle.judge_listing.specs.JudgeText.{ShownStep, stepText, stepTexts}
 use Rattle.plan_listing.specs.Lengths.{ShortNames}
 use Rattle.judge_listing.specs.Longest.{LongestUnfit}

@@ -20,9 +20,9 @@ use Rattle.tables.specs.declared.MessageRow.{MessageRow}
 use Rattle.tables.specs.Tables.{noMessage}
 use Rattle.text.proofs.Parts.{getD-within}
 use Rattle.plan_listing.specs.PlanText.{nameAt}
-use Rattle.fit_listing.specs.FitText.{verdictHead}
-use Rattle.step_lines.specs.declared.Step.{Step}
-use Rattle.step_lines.specs.StepLine.{stepLine, wordText, pickWord, lineOf}
+use Rattle.judge_listing.specs.fit.FitText.{verdictHead}
+use Rattle.judge_listing.specs.declared.step_lines.Step.{Step}
+use Rattle.judge_listing.specs.step_lines.StepLine.{stepLine, wordText, pickWord, lineOf}
 use Rattle.judge_listing.specs.JudgeText.{ShownStep, stepsOf, unfitText, stepText, stepTexts, wordIn}
 use Rattle.judge_listing.specs.Steps.{nextPlace, stepAt}
 use Rattle.judge_listing.proofs.Places.{steps-length, steps-at, bit-test}

@@ -9,8 +9,8 @@ use Rattle.rules.specs.Plan.{Word}
 use Rattle.text.specs.Words.{unfitWord}
 use Rattle.tables.specs.declared.MessageRow.{MessageRow}
 use Rattle.plan_listing.specs.PlanText.{nameAt}
-use Rattle.fit_listing.specs.FitText.{verdictHead}
-use Rattle.step_lines.specs.StepLine.{stepLine, wordText, pickWord}
+use Rattle.judge_listing.specs.fit.FitText.{verdictHead}
+use Rattle.judge_listing.specs.step_lines.StepLine.{stepLine, wordText, pickWord}
 
 -- ---- the steps of a closed walk
 

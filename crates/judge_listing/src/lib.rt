@@ -1,4 +1,7 @@
 // The listing of an unfit mapping.
+pub mod fit;
+pub mod step_lines;
+
 ghost use mathlib.Core.Path.{_≡_};
 ghost use Prim.Native.Nat.{_+_, _<_, _≤_};
 ghost use lib.ListN.{length};
@@ -6,12 +9,12 @@ ghost use Rattle.text.specs.Name.{nameText};
 ghost use Rattle.text.specs.Written.{Pasted};
 ghost use Rattle.plan_listing.specs.PlanText.{nameAt, firstMessages};
 ghost use Rattle.answers.specs.Answers.{Listed};
-ghost use Rattle.step_lines.specs.StepLine.{lineOf};
+ghost use Rattle.judge_listing.specs.step_lines.StepLine.{lineOf};
 ghost use Rattle.judge_listing.specs.JudgeText.{unfitText, stepText, stepTexts, wordIn};
 ghost use Rattle.judge_listing.specs.Steps.{GivenWalk, walkSteps, nextPlace, stepAt};
+use crate::step_lines::Step;
 use answers::Answer;
 use rules::Message;
-use step_lines::Step;
 use tables::MessageRow;
 use text::Name;
 
@@ -69,7 +72,7 @@ fn unfit_length(
     let mut n = 17;
     let mut counted = 0;
     while counted < count {
-        n += step_lines::step_length(step_at(messages, cycle, count, waits, counted));
+        n += crate::step_lines::step_length(step_at(messages, cycle, count, waits, counted));
         counted += 1;
     }
     n
@@ -91,7 +94,7 @@ fn more_steps(
     let mut written = 0;
     while written < count {
         let step = step_at(messages, cycle, count, waits, written);
-        at += step_lines::put_step(&mut out[at..], step);
+        at += crate::step_lines::put_step(&mut out[at..], step);
         written += 1;
     }
     at

@@ -1,16 +1,48 @@
--- The contract of `next_line` leaves one answer.
+-- Each contract of this crate leaves one answer.
 use Prim.Native.Nat.{ℕ}
-use mathlib.Core.Path.{_≡_, sym, subst, _∙_}
+use mathlib.Core.Path.{_≡_, sym, _∙_, subst}
 use mathlib.Core.Bool.{Bool}
 use mathlib.Core.List.{List}
-use lib.ListN.{length}
 use Rattle.determined.specs.Determined.{Determines}
+use Rattle.determined.proofs.Equal.{equal}
+use Rattle.text.specs.Parts.{split, part}
+use Rattle.lines.specs.Line.{field, says, event}
+use Rattle.lines.specs.declared.words.FoundKind.{FoundKind}
+use Rattle.lines.specs.words.Found.{foundController}
+use Rattle.lines.specs.declared.words.FoundController.{FoundController}
+use Rattle.lines.specs.Checks.{shaped}
+use Rattle.lines.specs.declared.shapes.StateWords.{StateWords}
+use Rattle.lines.specs.shapes.Shapes.{messageShape, stateShape}
+use Rattle.lines.specs.misplaced.Place.{Misplaced}
+use lib.ListN.{length}
 use Rattle.text.specs.declared.Fields.{Fields}
-use Rattle.text.specs.Parts.{part, split}
 use Rattle.text.specs.Fields.{fieldsOf}
-use Rattle.records.specs.Line.{says}
-use Rattle.lines.specs.declared.NextLine.{NextLine}
-use Rattle.lines.specs.Next.{Next}
+use Rattle.lines.specs.declared.next.NextLine.{NextLine}
+use Rattle.lines.specs.next.Next.{Next}
+
+module _ (line : List ℕ) (i : ℕ) where
+  pub field-at-determined : Determines (λ (r : List ℕ). r ≡ field (split 9 line) i)
+  field-at-determined = equal _
+
+  pub word-at-determined : (word : List ℕ) → Determines (λ (r : Bool). r ≡ says (split 9 line) i word)
+  word-at-determined word = equal _
+
+module _ (line : List ℕ) (i : ℕ) where
+  pub controller-at-determined : Determines (λ (r : FoundController). r ≡ foundController (field (split 9 line) i))
+  controller-at-determined = equal _
+
+module _ (line : List ℕ) where
+  pub message-shape-determined : Determines (λ (r : FoundKind). r ≡ messageShape (split 9 line))
+  message-shape-determined = equal _
+
+  pub event-shape-determined : Determines (λ (r : Bool). r ≡ shaped event (split 9 line))
+  event-shape-determined = equal _
+
+  pub state-shape-determined : Determines (λ (r : StateWords). r ≡ stateShape (split 9 line))
+  state-shape-determined = equal _
+
+pub misplaced-determined : (line : List ℕ) → Determines (Misplaced line)
+misplaced-determined line r s p q = p .is ∙ sym (q .is)
 
 abbrev nextOf : ℕ → Fields → Bool → NextLine
 nextOf e f b = record { end = e; fields = f; is = b }

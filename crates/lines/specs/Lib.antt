@@ -1,1 +1,7 @@
-pub mod Next
+pub mod Line
+pub mod Checks
+pub mod Told
+pub mod words
+pub mod shapes
+pub mod misplaced
+pub mod next

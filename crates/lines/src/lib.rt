@@ -1,29 +1,38 @@
-// The next line of a protocol text.
+// The words of one line of a protocol text.
+pub mod misplaced;
+pub mod next;
+pub mod shapes;
+pub mod words;
+
+ghost use mathlib.Core.Path.{_≡_};
 ghost use Prim.Native.Nat.{_<_};
-ghost use lib.ListN.{length};
-ghost use Rattle.papers.specs.Lined.{Lined};
-ghost use Rattle.lines.specs.Next.{Next};
+ghost use Rattle.text.specs.Parts.{split};
+ghost use Rattle.lines.specs.Line.{field, says};
+ghost use Rattle.lines.specs.Told.{FieldsAre};
 use text::Fields;
 
-// Where the line ends, its fields, and whether its first field is the word that was asked for.
-pub struct NextLine {
-    pub end: usize,
-    pub fields: Fields,
-    pub is: bool,
+// Field i of the line, counted from 0.
+pub fn field_at(line: &[u8], f: Fields, i: usize) -> &[u8]
+    requires { ⌜ FieldsAre (now line) f × (i < f .count) ⌝ }
+    ensures { λ r. ⌜ now r ≡ field (split 9 (now (line .entry))) i ⌝ }
+{
+    let a = f.from[i];
+    let e = f.to[i];
+    &line[a..e]
 }
 
-// The line that starts at a place.
-pub fn next_line(text: &[u8], at: usize, word: &[u8]) -> NextLine
-    requires { ⌜ Lined (now text) at × (at < length (now text)) ⌝ }
-    ensures { λ r. ⌜ Next (now (text .entry)) at (now (word .entry)) r ⌝ }
+// Whether field i of the line is this word.
+pub fn word_at(line: &[u8], f: Fields, i: usize, word: &[u8]) -> bool
+    requires { ⌜ FieldsAre (now line) f × (i < f .count) ⌝ }
+    ensures { λ r. ⌜ r ≡ says (split 9 (now (line .entry))) i (now (word .entry)) ⌝ }
 {
-    let e = text::find(text, 10, at, text.len());
-    let part = &text[at..e];
-    let f = fields::fields_of(part, 0, part.len());
-    let is = records::is_record(part, f, word);
-    NextLine {
-        end: e,
-        fields: f,
-        is: is,
-    }
+    text::same(field_at(line, f, i), word)
+}
+
+// Whether the line is a record of this word.
+pub(crate) fn is_record(line: &[u8], f: Fields, word: &[u8]) -> bool
+    requires { ⌜ FieldsAre (now line) f ⌝ }
+    ensures { λ r. ⌜ r ≡ says (split 9 (now (line .entry))) 0 (now (word .entry)) ⌝ }
+{
+    word_at(line, f, 0, word)
 }

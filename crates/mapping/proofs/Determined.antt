@@ -1,11 +1,11 @@
--- The contract of `read_mapping` leaves one answer.
+-- The contract of `network_of` leaves one answer.
+use Prim.Native.Nat.{ℕ}
 use mathlib.Core.Path.{_≡_}
 use mathlib.Core.List.{List}
-use Prim.Native.Nat.{ℕ}
-use lib.ListN.{take}
 use Rattle.determined.specs.Determined.{Determines}
 use Rattle.determined.proofs.Equal.{equal}
 use Rattle.tables.specs.declared.MessageRow.{MessageRow}
+use lib.ListN.{take}
 use Rattle.mapping.specs.declared.Mapped.{Mapped}
 use Rattle.mapping.specs.Reading.{readMapping}
 

@@ -19,13 +19,13 @@ use Rattle.papers.proofs.OpeningLaws.{opened}
 use Rattle.papers.proofs.Walk.{NextLine, walk-next}
 use Rattle.tables.specs.declared.MessageRow.{MessageRow}
 use Rattle.mapping.specs.declared.Mapped.{Mapped}
-use Rattle.maplines.specs.declared.MapLine.{MapLine}
-use Rattle.map_shapes.specs.Shape.{Line, field, shaped}
-use Rattle.maplines.specs.Line.{lineRefusal}
-use Rattle.networks.specs.Networks.{networkOf}
+use Rattle.mapping.specs.declared.lines.MapLine.{MapLine}
+use Rattle.mapping.specs.lines.Shape.{Line, field, shaped}
+use Rattle.mapping.specs.lines.Line.{lineRefusal}
+use Rattle.mapping.specs.networks.Networks.{networkOf}
 use Rattle.mapping.specs.Reading.{networkNo, refused, pickMapped, unless, readMaps, readMapping}
-use Rattle.maplines.specs.Line.{mapLine}
-use Rattle.maplines.proofs.LineLaws.{refusalAt, line-shape, line-many, line-gives}
+use Rattle.mapping.specs.lines.Line.{mapLine}
+use Rattle.mapping.proofs.lines.LineLaws.{refusalAt, line-shape, line-many, line-gives}
 
 -- ---- one step of the reading
 

@@ -1,2 +1,4 @@
 pub mod Reading
 pub mod Text
+pub mod networks
+pub mod lines

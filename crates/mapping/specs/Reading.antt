@@ -11,9 +11,9 @@ use Rattle.papers.specs.declared.Refusal.{Refusal}
 use Rattle.papers.specs.Checks.{refusal}
 use Rattle.papers.specs.Opening.{openingOf}
 use Rattle.tables.specs.declared.MessageRow.{MessageRow}
-use Rattle.networks.specs.Networks.{networkOf}
-use Rattle.map_shapes.specs.Shape.{field}
-use Rattle.maplines.specs.Line.{lineRefusal}
+use Rattle.mapping.specs.networks.Networks.{networkOf}
+use Rattle.mapping.specs.lines.Shape.{field}
+use Rattle.mapping.specs.lines.Line.{lineRefusal}
 use Rattle.mapping.specs.declared.Mapped.{Mapped}
 
 -- ---- the reading

@@ -1,4 +1,7 @@
 // The mapping reader.
+pub mod lines;
+pub mod networks;
+
 ghost use mathlib.Core.Path.{_≡_};
 ghost use mathlib.Core.List.{[]};
 ghost use Prim.Native.Nat.{_≤_};
@@ -39,14 +42,14 @@ fn map_lines(text: &[u8], from: usize, messages: [MessageRow; 32], count: usize)
     let mut i = 0;
     while at < n {
         let e = text::find(text, 10, at, n);
-        if !map_shapes::is_map(&text[at..e]) {
+        if !crate::lines::is_map(&text[at..e]) {
             return refuse(4, i + 2);
         }
         if i == count {
             return refuse(14, i + 2);
         }
         let row = messages[i];
-        let line = maplines::map_line(&text[at..e], row);
+        let line = crate::lines::map_line(&text[at..e], row);
         let number = line.number;
         if number != 0 {
             return refuse(number, i + 2);

@@ -16,11 +16,14 @@ use Rattle.tables.specs.declared.Tables.{Tables}
 use Rattle.tables.specs.Tables.{messagesOf}
 use Rattle.tables.specs.Cells.{relationsOfTables}
 use Rattle.protocol.specs.Reading.{readProtocol}
-use Rattle.answers.specs.Answers.{Listed, packedAnswer}
+use Rattle.answers.specs.Answers.{Listed}
 use Rattle.answers.proofs.Determined.{refusal-determined, listed-determined}
 use Rattle.plan_listing.specs.PlanText.{classThree, classTwo}
 use Rattle.plan.specs.Call.{Three, Two, PlanListing}
-use Rattle.plan.specs.Determined.{PlanDetermined, PackedDetermined}
+use Rattle.plan.specs.Determined.{PlanDetermined}
+use Rattle.text.specs.Written.{Wrote}
+use Rattle.text.proofs.Determined.{wrote-determined}
+use Rattle.plan.specs.program.Determined.{PrintedDetermined}
 
 -- ---- the listing
 
@@ -55,7 +58,14 @@ plan-determined text old new₁ new₂ r s c d = go (eqb (readProtocol text .num
         let n = eqb-false (readProtocol text .number) 0 e in
         refusal-determined (readProtocol text .number) 0 (readProtocol text .line) old new₁ new₂ r s (c .refused n) (d .refused n)
 
-pub packed-determined : PackedDetermined
-packed-determined text old new₁ new₂ j k v w =
-    let q = plan-determined text old new₁ new₂ (v .answer) (w .answer) (v .call) (w .call) in
-    (v .is ∙ ap packedAnswer (q .0) ∙ sym (w .is), q .1)
+-- ---- What the planning program prints is determined: the count and the lent bytes.
+
+pub printed-determined : PrintedDetermined
+printed-determined text old new₁ new₂ j k v w =
+    wrote-determined (v .printed) old new₁ new₂ j k (v .wrote) (subst (λ (l : List ℕ). Wrote l old new₂ k) (same (eqb (readProtocol text .number) 0) refl) (w .wrote))
+  where
+    same : (b : Bool) → eqb (readProtocol text .number) 0 ≡ b → w .printed ≡ v .printed
+    same true e =
+        let z = eqb-true (readProtocol text .number) 0 e in
+        listing-one (readProtocol text .tables) (w .printed) (v .printed) (w .planned z) (v .planned z)
+    same false e = let n = eqb-false (readProtocol text .number) 0 e in w .refused n ∙ sym (v .refused n)

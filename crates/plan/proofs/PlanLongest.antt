@@ -19,18 +19,17 @@ use Rattle.tables.specs.declared.MessageRow.{MessageRow}
 use Rattle.tables.specs.Tables.{noMessage, messagesOf}
 use Rattle.tables.specs.Cells.{relationsOfTables}
 use Rattle.protocol.specs.Reading.{readProtocol}
-use Rattle.protocol_laws.specs.Promises.{AcceptedReading}
-use Rattle.protocol_laws.proofs.Accepted.{accepted-kept}
-use Rattle.bounds.specs.Bounds.{Named}
-use Rattle.bounds.proofs.NamesKept.{names-kept}
-use Rattle.bounds.proofs.Bounds.{protocol-low}
-use Rattle.answers.specs.Answers.{Small, Unpacked}
-use Rattle.answers.proofs.Packing.{unpack}
+use Rattle.reading_laws.specs.protocols.Promises.{AcceptedReading}
+use Rattle.reading_laws.proofs.protocols.Accepted.{accepted-kept}
+use Rattle.reading_laws.specs.bounds.Bounds.{Named}
+use Rattle.reading_laws.proofs.bounds.NamesKept.{names-kept}
+use Rattle.reading_laws.proofs.bounds.Bounds.{protocol-low}
+use Rattle.answers.specs.Answers.{Small}
 use Rattle.answers.proofs.Small.{small-refused, small-listed}
 use Rattle.plan_listing.specs.Lengths.{ShortNames}
 use Rattle.plan_listing.proofs.Longest.{longest-maps, longest-cycle}
 use Rattle.plan.specs.Call.{PlanListing}
-use Rattle.plan.specs.Longest.{PlanLength, PlanSmall, PlanUnpacked}
+use Rattle.plan.specs.Longest.{PlanLength, PlanSmall}
 
 -- ---- relations of at most 32 messages
 
@@ -116,6 +115,3 @@ plan-small text old new r c = go (eqb (readProtocol text .number) 0) refl
     go false e =
         let low = protocol-low text in
         small-refused (readProtocol text .number) 0 (readProtocol text .line) r (low .0) (omega arith) (low .1) (c .refused (eqb-false (readProtocol text .number) 0 e) .answer)
-
-pub plan-unpacked : PlanUnpacked
-plan-unpacked text old new k p = subst (λ (j : ℕ). Unpacked j (p .answer)) (sym (p .is)) (unpack (p .answer) (plan-small text old new (p .answer) (p .call)))

@@ -12,7 +12,7 @@ use Rattle.tables.specs.Tables.{messagesOf}
 use Rattle.tables.specs.Cells.{relationsOfTables}
 use Rattle.protocol.specs.Reading.{readProtocol}
 use Rattle.answers.specs.declared.Answer.{Answer}
-use Rattle.answers.specs.Answers.{Refused, Listed, packedAnswer}
+use Rattle.answers.specs.Answers.{Refused, Listed}
 use Rattle.plan_listing.specs.PlanText.{classThree, classTwo}
 
 -- ---- the listings that the rules allow
@@ -48,9 +48,3 @@ pub record Planned (t : Tables) (old new : List ℕ) (r : Answer) : Type 0 where
 pub record Call (text old new : List ℕ) (r : Answer) : Type 0 where
   pub refused : readProtocol text .number ≢ 0 → Refused (readProtocol text .number) 0 (readProtocol text .line) old new r
   pub planned : readProtocol text .number ≡ 0 → Planned (readProtocol text .tables) old new r
-
--- The call from a host: the answer's numbers packed into one.
-pub record Packed (text old new : List ℕ) (k : ℕ) : Type 0 where
-  pub answer : Answer
-  pub call : Call text old new answer
-  pub is : k ≡ packedAnswer answer

@@ -2,11 +2,8 @@
 use Prim.Native.Nat.{ℕ}
 use mathlib.Core.List.{List}
 use Rattle.determined.specs.Determined.{DeterminesLent}
-use Rattle.plan.specs.Call.{Call, Packed}
+use Rattle.plan.specs.Call.{Call}
 
 -- Two answers that the contract allows are equal, and so are the lent bytes.
 abbrev pub PlanDetermined : Type 0
 PlanDetermined = (text old : List ℕ) → DeterminesLent (Call text old)
-
-abbrev pub PackedDetermined : Type 0
-PackedDetermined = (text old : List ℕ) → DeterminesLent (Packed text old)

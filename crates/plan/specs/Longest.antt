@@ -5,16 +5,12 @@ use mathlib.Core.List.{List}
 use lib.ListN.{length}
 use Rattle.protocol.specs.Reading.{readProtocol}
 use Rattle.answers.specs.declared.Answer.{Answer}
-use Rattle.answers.specs.Answers.{Small, Unpacked}
-use Rattle.plan.specs.Call.{PlanListing, Call, Packed}
+use Rattle.answers.specs.Answers.{Small}
+use Rattle.plan.specs.Call.{PlanListing, Call}
 
 abbrev pub PlanLength : Type 0
 PlanLength = (text listing : List ℕ) → readProtocol text .number ≡ 0 → PlanListing (readProtocol text .tables) listing → length listing ≤ 1054
 
--- So every number of an answer has its place in the packed number,
+-- So every number of an answer has its place in the packed number.
 abbrev pub PlanSmall : Type 0
 PlanSmall = (text old new : List ℕ) (r : Answer) → Call text old new r → Small r
-
--- and a host reads the answer out of it.
-abbrev pub PlanUnpacked : Type 0
-PlanUnpacked = (text old new : List ℕ) (k : ℕ) (p : Packed text old new k) → Unpacked k (p .answer)

@@ -1,7 +1,9 @@
 // The planning call: a protocol text in, a listing out.
+pub mod program;
+
 ghost use Prim.Native.Nat.{_<_};
 ghost use Rattle.tables.specs.Cells.{TablesOk};
-ghost use Rattle.plan.specs.Call.{Planned, Call, Packed};
+ghost use Rattle.plan.specs.Call.{Planned, Call};
 use answers::Answer;
 use tables::Tables;
 
@@ -14,10 +16,16 @@ fn plan_tables(t: Tables, out: &mut [u8]) -> Answer
     let messages = t.messages;
     if found.count != 0 {
         let networks = found.networks;
-        return plan_maps::map_listing(messages, t.message_count, networks, found.count, out);
+        return plan_listing::maps::map_listing(
+            messages,
+            t.message_count,
+            networks,
+            found.count,
+            out,
+        );
     }
     let cycle = found.cycle;
-    plan_cycle::cycle_listing(messages, cycle, found.length, out)
+    plan_listing::cycle::cycle_listing(messages, cycle, found.length, out)
 }
 
 // The plan of a protocol text.
@@ -30,13 +38,4 @@ pub fn plan(text: &[u8], out: &mut [u8]) -> Answer
     }
     let t = r.tables;
     plan_tables(t, out)
-}
-
-// The plan from a C host: the answer's numbers packed into one.
-#[no_mangle]
-pub extern "C" fn vn_plan_text(text: &[u8], out: &mut [u8]) -> u64
-    ensures { λ r. ⌜ Packed (now (text .entry)) (now (out .entry)) (now (out .exit)) r ⌝ }
-{
-    let a = plan(text, out);
-    answers::packed(a)
 }

@@ -2,12 +2,18 @@
 use Prim.Native.Nat.{ℕ}
 use mathlib.Core.List.{List}
 use Rattle.determined.specs.Determined.{DeterminesLent}
-use Rattle.text.specs.Written.{Wrote}
-use Rattle.text.proofs.Determined.{wrote-determined}
-use Rattle.plan_listing.specs.PlanText.{numberLine, classHead}
+use Rattle.plan_listing.specs.PlanText.{classThree, firstNetworks, classTwo, firstMessages}
+use lib.ListN.{take}
+use Rattle.rules.specs.declared.Network.{Network}
+use Rattle.tables.specs.declared.MessageRow.{MessageRow}
+use Rattle.answers.specs.Answers.{Listed}
+use Rattle.answers.proofs.Determined.{listed-determined}
+use Rattle.rules.specs.declared.Message.{Message}
 
-pub number-line-determined : (word : List ℕ) (n : ℕ) (old : List ℕ) → DeterminesLent (Wrote (numberLine word n) old)
-number-line-determined word n = wrote-determined (numberLine word n)
+pub map-listing-determined : (messages : List MessageRow) (n : ℕ) (networks : List Network) (count : ℕ) (old : List ℕ)
+    → DeterminesLent (Listed (classThree (take n messages) (firstNetworks n networks) count) old)
+map-listing-determined messages n networks count = listed-determined (classThree (take n messages) (firstNetworks n networks) count)
 
-pub head-determined : (class : ℕ) (old : List ℕ) → DeterminesLent (Wrote (classHead class) old)
-head-determined class = wrote-determined (classHead class)
+pub cycle-listing-determined : (messages : List MessageRow) (cycle : List Message) (n : ℕ) (old : List ℕ)
+    → DeterminesLent (Listed (classTwo messages (firstMessages n cycle)) old)
+cycle-listing-determined messages cycle n = listed-determined (classTwo messages (firstMessages n cycle))

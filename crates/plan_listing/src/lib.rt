@@ -1,26 +1,29 @@
 // The listing of a plan: the lines that both classes begin with. Each line is written at the front of what is lent.
+pub mod cycle;
+pub mod maps;
+
 ghost use Prim.Native.Nat.{_≤_};
 ghost use lib.ListN.{length};
 ghost use Rattle.text.specs.Written.{Wrote};
 ghost use Rattle.plan_listing.specs.PlanText.{numberLine, classHead};
 
 // A word and a number.
-pub fn put_number_line(out: &mut [u8], word: &[u8], n: u32) -> usize
+pub(crate) fn put_number_line(out: &mut [u8], word: &[u8], n: u32) -> usize
     requires { ⌜ length (numberLine (now word) n) ≤ length (now out) ⌝ }
     ensures { λ r. ⌜ Wrote (numberLine (now (word .entry)) n) (now (out .entry)) (now (out .exit)) r ⌝ }
 {
     let a = text::put(out, word);
-    let b = writers::more(out, a, b"\t");
-    let c = writers::more_number(out, b, n);
-    writers::more(out, c, b"\n")
+    let b = text::writers::more(out, a, b"\t");
+    let c = text::writers::more_number(out, b, n);
+    text::writers::more(out, c, b"\n")
 }
 
 // The header and the class.
-pub fn put_head(out: &mut [u8], class: u32) -> usize
+pub(crate) fn put_head(out: &mut [u8], class: u32) -> usize
     requires { ⌜ length (classHead class) ≤ length (now out) ⌝ }
     ensures { λ r. ⌜ Wrote (classHead class) (now (out .entry)) (now (out .exit)) r ⌝ }
 {
     let a = text::put(out, b"vn-plan\t1");
-    let b = writers::more(out, a, b"\n");
+    let b = text::writers::more(out, a, b"\n");
     b + put_number_line(&mut out[b..], b"class", class)
 }

@@ -16,17 +16,17 @@ use Rattle.tables.specs.declared.Tables.{Tables}
 use Rattle.tables.specs.Tables.{noMessage, messagesOf}
 use Rattle.tables.specs.Cells.{relationsOfTables}
 use Rattle.protocol.specs.Reading.{readProtocol}
-use Rattle.protocol_laws.specs.Promises.{AcceptedReading}
-use Rattle.protocol_laws.proofs.Accepted.{accepted-kept}
+use Rattle.reading_laws.specs.protocols.Promises.{AcceptedReading}
+use Rattle.reading_laws.proofs.protocols.Accepted.{accepted-kept}
 use Rattle.mapping.specs.declared.Mapped.{Mapped}
 use Rattle.mapping.specs.Reading.{accepted, networkNo}
 use Rattle.mapping.specs.Text.{mappingText, Writable}
-use Rattle.mapping_laws.proofs.RoundTrip.{reads-back}
-use Rattle.mapping_laws.proofs.Why.{pad-at}
+use Rattle.reading_laws.proofs.mappings.RoundTrip.{reads-back}
+use Rattle.reading_laws.proofs.mappings.Why.{pad-at}
 use Rattle.answers.specs.Answers.{Listed}
 use Rattle.verdicts.specs.Verdicts.{mappingOf}
-use Rattle.bounds.specs.Bounds.{Named}
-use Rattle.bounds.proofs.NamesKept.{names-kept}
+use Rattle.reading_laws.specs.bounds.Bounds.{Named}
+use Rattle.reading_laws.proofs.bounds.NamesKept.{names-kept}
 use Rattle.plan.proofs.PlanLongest.{networks-below}
 use Rattle.plan.specs.Call.{Three, Two}
 use Rattle.judge.specs.Call.{FitListing, UnfitListing}

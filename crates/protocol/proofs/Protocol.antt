@@ -12,14 +12,14 @@ use Rattle.papers.specs.Opening.{openingOf}
 use Rattle.papers.proofs.OpeningLaws.{opened}
 use Rattle.tables.specs.declared.Tables.{Tables}
 use Rattle.tables.specs.Tables.{clearedTables}
-use Rattle.records.specs.Line.{message}
-use Rattle.whole.specs.declared.Reading.{Reading}
-use Rattle.whole.specs.Whole.{refused, unless}
-use Rattle.sections.specs.Lines.{readLines}
-use Rattle.whole.specs.Kept.{Kept}
-use Rattle.whole.proofs.Unless.{unless-passed, unless-refused}
-use Rattle.sections.specs.Sections.{Placed, Stage}
-use Rattle.sections.proofs.Kept.{kept-cleared}
+use Rattle.lines.specs.Line.{message}
+use Rattle.protocol.specs.declared.whole.Reading.{Reading}
+use Rattle.protocol.specs.whole.Whole.{refused, unless}
+use Rattle.protocol.specs.sections.Lines.{readLines}
+use Rattle.protocol.specs.whole.Kept.{Kept}
+use Rattle.protocol.proofs.whole.Unless.{unless-passed, unless-refused}
+use Rattle.protocol.specs.sections.Sections.{Placed, Stage}
+use Rattle.protocol.proofs.sections.Kept.{kept-cleared}
 use Rattle.protocol.specs.Reading.{readProtocol}
 
 -- The lines behind the header start at the place `at`, and t is cleared.

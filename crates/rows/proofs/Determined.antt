@@ -12,7 +12,7 @@ use Rattle.determined.specs.Determined.{Determines}
 use Rattle.rules.proofs.Unique.{counts-one}
 use Rattle.rows.specs.Rows.{Bit}
 use Rattle.rows.specs.Row.{With, Without, Join, Lowest, Ones}
-use Rattle.rows.specs.Closure.{Kept}
+use Rattle.rows.specs.Closure.{Kept, Closure}
 use Rattle.rows.specs.Determined.{DeterminesRow, DeterminesRows, DeterminesWords}
 use Rattle.rows.proofs.Bits.{same-bits}
 
@@ -65,3 +65,8 @@ relation-one R w n given r s hr hs f g =
 pub words-one : (n : ℕ) (R : ℕ → ℕ → Type 0) → DeterminesWords n (λ rows. (i j : ℕ) → Bit (getD rows i 0) j ↔ R i j)
 words-one n R r s u v f g =
     ext-getD 0 r s (u .long ∙ sym (v .long)) (λ i h. told-one (R i) 32 (getD r i 0) (getD s i 0) (u .small i) (v .small i) (f i) (g i))
+
+-- ---- The contract determines the result: two that it allows are equal. A row of w bits is below 2 ^ w.
+
+pub closure-one : (w n : ℕ) (given : List ℕ) → DeterminesRows w (Closure n given)
+closure-one w n given r s hr hs f g = relation-one _ w n given r s hr hs (f .reached, f .kept) (g .reached, g .kept)

@@ -1,4 +1,6 @@
 // One row of bits. Rows know only bit places: what a place stands for is for the caller to say.
+pub mod closure;
+
 ghost use mathlib.Core.Path.{_≡_};
 ghost use mathlib.Core.Bool.{true};
 ghost use mathlib.Core.Logic.{_↔_};

@@ -3,3 +3,4 @@ pub mod Cells
 pub mod Clash
 pub mod Relations
 pub mod Given
+pub mod names

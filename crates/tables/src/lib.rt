@@ -1,4 +1,7 @@
 // The controller tables of a protocol: the records they are made of, and the tables' value.
+pub mod conflicts;
+pub mod names;
+
 ghost use mathlib.Core.Path.{_≡_};
 ghost use Rattle.tables.specs.Tables.{noCell, clearedTables};
 use rules::Event;
@@ -91,7 +94,7 @@ pub fn no_cell() -> Cell
 pub fn cleared() -> Tables
     ensures { λ r. ⌜ r ≡ clearedTables ⌝ }
 {
-    let name = naming::no_name();
+    let name = text::names::no_name();
     let message = MessageRow {
         name: name,
         kind: Kind::Req,

@@ -1,5 +1,9 @@
 // Texts as bytes: compared, searched, counted and copied. The definitions of fields, names and written texts stand here too;
 // the functions that meet them are in crates above.
+pub mod line_fields;
+pub mod names;
+pub mod writers;
+
 ghost use mathlib.Core.Path.{_≡_};
 ghost use Prim.Native.Nat.{_≤_};
 ghost use lib.ListN.{length};

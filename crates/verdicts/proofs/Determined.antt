@@ -1,25 +1,26 @@
--- The contract determines the plan: two results that it allows are equal.
+-- The contract determines the messages: two results that it allows are equal.
 use Prim.Native.Nat.{ℕ, _-_}
 use mathlib.Core.Path.{_≡_, refl, sym, ap, ap₂, _∙_}
-use mathlib.Core.Logic.{inl, inr}
-use mathlib.Core.List.{List, [], _∷_, map, _++_}
+use mathlib.Core.List.{List, map, [], _∷_, _++_}
+use Rattle.determined.specs.Determined.{Determines}
+use Rattle.rules.specs.declared.Message.{Message}
+use Rattle.verdicts.specs.Numbers.{asMessage}
+use mathlib.Core.Logic.{inl, inr, _⊎_}
 use native.Mathlib.Omega.{arith}
 use lib.ListN.{length, getD, take, replicate, take-append-drop}
 use lib.Seq.{ext-getD}
-use Rattle.determined.specs.Determined.{Determines}
-use Rattle.rules.specs.declared.Message.{Message}
 use Rattle.rules.specs.declared.Network.{Network}
-use Rattle.rules.specs.Rules.{Relations}
-use Rattle.rules.proofs.Promises.{determined, one-class}
+use Rattle.rules.specs.Rules.{Relations, Mapping}
+use Rattle.rules.proofs.Promises.{determined, one-class, shown-is-real}
 use Rattle.tables.specs.declared.Tables.{Tables}
 use Rattle.tables.specs.Cells.{relationsOfTables, number as messageNumber}
 use Rattle.plan_listing.specs.PlanText.{networkNumber, firstMessages, firstNetworks}
-use Rattle.walked.specs.Numbers.{asMessage}
 use Rattle.verdicts.specs.declared.Planned.{Planned}
-use Rattle.verdicts.specs.Verdicts.{clearedMessage, MessagesPast, NetworksPast, PlanIs, ClassThree, ClassTwo}
+use Rattle.verdicts.specs.Verdicts.{clearedMessage, MessagesPast, NetworksPast, PlanIs, ClassThree, ClassTwo, mappingOf, Fitting, Unfitting, JudgedIs}
 use Rattle.verdicts.specs.Leaves.{asNetwork}
-
--- ---- arrays whose first numbers are told, and which are cleared past them
+use Rattle.rows.specs.Determined.{Words}
+use Rattle.rows.proofs.Determined.{words-one}
+use Rattle.verdicts.specs.declared.Judged.{Judged}
 
 as-messages : (l : List Message) → map asMessage (map messageNumber l) ≡ l
 as-messages [] = refl
@@ -42,8 +43,6 @@ networks-one n l m f p q =
     sym (take-append-drop n l)
     ∙ ap₂ _++_ (sym (as-networks (take n l)) ∙ ap (map asNetwork) f ∙ as-networks (take n m)) (p ∙ sym q)
     ∙ take-append-drop n m
-
--- ---- a plan
 
 same-plan : (r s : Planned) → r .count ≡ s .count → r .networks ≡ s .networks → r .length ≡ s .length → r .cycle ≡ s .cycle → r ≡ s
 same-plan r s a b c d =
@@ -82,3 +81,29 @@ plan-one p r s (inr f) (inr g) = two-one p r s f g
 
 pub plan-of-determined : (t : Tables) → Determines (PlanIs (relationsOfTables t))
 plan-of-determined t = plan-one (relationsOfTables t)
+
+same-judgement : (r s : Judged) → r .length ≡ s .length → r .cycle ≡ s .cycle → r .waits ≡ s .waits → r ≡ s
+same-judgement r s a b c =
+    let t : _≡_ {A = Judged} (record { length = r .length; cycle = r .cycle; waits = r .waits }) (record { length = s .length; cycle = s .cycle; waits = s .waits }) = cc in t
+
+module _ (p : Relations) (φ : Mapping) (r s : Judged) where
+  cycle-one : Fitting p φ r ⊎ Unfitting p φ r → Fitting p φ s ⊎ Unfitting p φ s → (r .length ≡ s .length) × (r .cycle ≡ s .cycle)
+  cycle-one (inl f) (inl g) = (f .none ∙ sym (g .none), f .no-cycle ∙ sym (g .no-cycle))
+  cycle-one (inl f) (inr g) = absurd (f .fit (shown-is-real p .1 φ (firstMessages (s .length) (s .cycle)) (g .cycle)))
+  cycle-one (inr f) (inl g) = absurd (g .fit (shown-is-real p .1 φ (firstMessages (r .length) (r .cycle)) (f .cycle)))
+  cycle-one (inr f) (inr g) = (same, messages-one (r .length) (s .length) (r .cycle) (s .cycle) same first (f .cycle-past) (g .cycle-past))
+    where
+      first : firstMessages (r .length) (r .cycle) ≡ firstMessages (s .length) (s .cycle)
+      first = determined .judge-cycle p φ (firstMessages (r .length) (r .cycle)) (firstMessages (s .length) (s .cycle)) (f .cycle) (g .cycle)
+
+      same : r .length ≡ s .length
+      same = sym (f .long) ∙ ap length first ∙ g .long
+
+  -- their rows are arrays of words
+  pub judged-one : Words 32 (r .waits) → Words 32 (s .waits) → JudgedIs p φ r → JudgedIs p φ s → r ≡ s
+  judged-one u v f g =
+      let c = cycle-one (f .verdict) (g .verdict) in same-judgement r s (c .0) (c .1) (words-one 32 _ (r .waits) (s .waits) u v (f .waits) (g .waits))
+
+pub judge-of-determined : (t : Tables) (networks : List Network)
+    → Determines (λ (r : Judged). Words 32 (r .waits) × JudgedIs (relationsOfTables t) (mappingOf networks) r)
+judge-of-determined t networks r s f g = judged-one (relationsOfTables t) (mappingOf networks) r s (f .0) (g .0) (f .1) (g .1)

@@ -3,3 +3,4 @@ pub mod Written
 pub mod Waiting
 pub mod Planning
 pub mod Determined
+pub mod Turning

@@ -5,7 +5,7 @@ use mathlib.Core.List.{List, map}
 use lib.ListN.{replicate}
 use Rattle.rules.specs.declared.Message.{Message}
 use Rattle.rules.specs.declared.Network.{Network}
-use Rattle.walked.specs.Numbers.{asMessage}
+use Rattle.verdicts.specs.Numbers.{asMessage}
 use Rattle.verdicts.specs.declared.Planned.{Planned}
 use Rattle.verdicts.specs.Verdicts.{clearedMessage, clearedNetwork}
 use Rattle.verdicts.specs.Leaves.{asNetwork, classThree, classTwo}

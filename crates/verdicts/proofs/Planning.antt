@@ -20,7 +20,7 @@ use Rattle.rules.proofs.Decided.{plus-closed}
 use Rattle.tables.specs.Cells.{relationsOfTables}
 use Rattle.tables.proofs.InRange.{relations-accepted}
 use Rattle.plan_listing.specs.PlanText.{firstNetworks}
-use Rattle.walked.specs.Numbers.{asMessage}
+use Rattle.verdicts.specs.Numbers.{asMessage}
 use Rattle.verdicts.specs.declared.Planned.{Planned}
 use Rattle.verdicts.specs.Verdicts.{WaitsOf, ClassThree, ClassTwo}
 use Rattle.verdicts.specs.Leaves.{asNetwork, classThree, classTwo, RowsPlan}

@@ -6,7 +6,7 @@ use lib.ListN.{replicate}
 use Rattle.rules.specs.declared.Network.{Network}
 use Rattle.tables.specs.declared.Tables.{Tables}
 use Rattle.tables.specs.Cells.{relationsOfTables, TablesOk}
-use Rattle.walked.specs.Numbers.{asMessage}
+use Rattle.verdicts.specs.Numbers.{asMessage}
 use Rattle.verdicts.specs.declared.Planned.{Planned}
 use Rattle.verdicts.specs.Verdicts.{clearedMessage, clearedNetwork, WaitsOf, PlanIs}
 

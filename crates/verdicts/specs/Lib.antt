@@ -1,2 +1,4 @@
 pub mod Verdicts
 pub mod Leaves
+pub mod Numbers
+pub mod judgement

@@ -9,7 +9,7 @@ use Rattle.rules.specs.declared.Network.{Network}
 use Rattle.rules.specs.Rules.{MessageNo, Relations, Mapping, Waits, Fit}
 use Rattle.rules.specs.Plan.{LeastCount, Printed, PlanCycle, JudgeCycle}
 use Rattle.rows.specs.Rows.{Bit}
-pub use Rattle.steps.specs.Steps.{mappingOf}
+pub use Rattle.waits.specs.steps.Steps.{mappingOf}
 use Rattle.plan_listing.specs.PlanText.{firstMessages, firstNetworks}
 use Rattle.verdicts.specs.declared.Planned.{Planned}
 use Rattle.verdicts.specs.declared.Judged.{Judged}

@@ -1,4 +1,6 @@
 // What is found out about a protocol's tables: a plan, or the judgement of a mapping; and the plan itself.
+pub mod judgement;
+
 ghost use mathlib.Core.Path.{_≡_};
 ghost use Prim.Native.Nat.{_<_, _≤_};
 ghost use Rattle.tables.specs.Cells.{relationsOfTables, TablesOk};
@@ -7,6 +9,8 @@ ghost use Rattle.verdicts.specs.Leaves.{classThree, classTwo, RowsPlan};
 use rules::Message;
 use rules::Network;
 use tables::Tables;
+ghost use mathlib.Core.List.{map};
+ghost use Rattle.verdicts.specs.Numbers.{asMessage};
 
 // A plan: the least count and each message's network; or count 0 and the shown cycle.
 pub struct Planned {
@@ -46,7 +50,7 @@ fn ranked(count: usize, bytes: [u8; 32]) -> Planned
 fn cycled(length: usize, bytes: [u8; 32]) -> Planned
     ensures { λ r. ⌜ r ≡ classTwo length bytes ⌝ }
 {
-    let cycle = walked::messages_of(bytes);
+    let cycle = crate::messages_of(bytes);
     Planned {
         count: 0,
         networks: [Network(0); 32],
@@ -61,11 +65,11 @@ fn plan_rows(waits: [u32; 32], n: usize) -> Planned
     ensures { λ r. ⌜ RowsPlan waits n r ⌝ }
 {
     let mut bytes = [0u8; 32];
-    let count = heights::heights(&waits, n, &mut bytes);
+    let count = walks::heights::heights(&waits, n, &mut bytes);
     if count != 0 {
         return ranked(count, bytes);
     }
-    let length = cycles::cycle(&waits, &waits, n, &mut bytes);
+    let length = walks::cycles::cycle(&waits, &waits, n, &mut bytes);
     cycled(length, bytes)
 }
 
@@ -75,8 +79,24 @@ pub fn plan_of(t: Tables) -> Planned
     ensures { λ r. ⌜ PlanIs (relationsOfTables t) r ⌝ }
 {
     let n = t.message_count;
-    let causes = causing::causes_rows(t);
-    let stalls = stalling::stalls_rows(t);
-    let waits = waiting::waits_of(causes, stalls, n);
+    let causes = table_rows::causes::causes_rows(t);
+    let stalls = table_rows::stalls::stalls_rows(t);
+    let waits = waits::waits_of(causes, stalls, n);
     plan_rows(waits, n)
+}
+
+// ---- The numbers that a walk wrote, in a type of their own.
+
+// The numbers that a walk wrote, as messages.
+pub(crate) fn messages_of(bytes: [u8; 32]) -> [Message; 32]
+    ensures { λ r. ⌜ r ≡ map asMessage bytes ⌝ }
+{
+    let mut messages = [Message(0); 32];
+    let mut i = 0;
+    while i < 32 {
+        let byte = bytes[i];
+        messages[i] = Message(byte);
+        i += 1;
+    }
+    messages
 }

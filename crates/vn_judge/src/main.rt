@@ -13,6 +13,6 @@ fn main() {
     let mut mapping = [0u8; MOST];
     let m = files::read_file(b"mapping.tsv", &mut mapping);
     let mut out = [0u8; ROOM];
-    let k = judge_program::print_judgement(&protocol[..n], &mapping[..m], &mut out);
+    let k = judge::program::print_judgement(&protocol[..n], &mapping[..m], &mut out);
     io::write_all(1, &out[..k]);
 }

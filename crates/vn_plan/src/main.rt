@@ -10,6 +10,6 @@ fn main() {
     let mut text = [0u8; MOST];
     let n = io::read_full(0, &mut text);
     let mut out = [0u8; ROOM];
-    let k = plan_program::print_plan(&text[..n], &mut out);
+    let k = plan::program::print_plan(&text[..n], &mut out);
     io::write_all(1, &out[..k]);
 }

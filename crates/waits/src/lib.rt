@@ -1,9 +1,12 @@
 // The rows of waits by rule 4, and the number of waits pairs.
+pub mod steps;
+
 ghost use Prim.Native.Nat.{ℕ, _<_, _≤_};
 ghost use lib.ListN.{length};
 ghost use Rattle.rows.specs.Rows.{Bit};
 ghost use Rattle.rows.specs.Closure.{Closure};
 ghost use Rattle.waits.specs.Waiting.{Tidy, Spread, Cleared, Gathered, WaitsRows, RowPairs};
+ghost use Rattle.waits.specs.Rows.{WaitsOnly};
 
 // Each row whose place is in the set takes in the row. The next place is found by trailing zeros.
 fn spread(row: u32, set: u32, waits: &mut [u32])
@@ -49,7 +52,7 @@ pub fn waits(causes: &mut [u32], stalls: &[u32], n: usize, waits: &mut [u32])
     ensures { λ _. ⌜ Closure n (now (causes .entry)) (now (causes .exit)) ⌝ }
     ensures { λ _. ⌜ WaitsRows n (now (causes .entry)) (now (stalls .entry)) (now (waits .entry)) (now (waits .exit)) ⌝ }
 {
-    closure::closure(causes, n);
+    rows::closure::closure(causes, n);
     gather(causes, stalls, n, waits);
 }
 
@@ -65,4 +68,17 @@ pub fn pairs(rows: &[u32], n: usize) -> usize
         i += 1;
     }
     sum
+}
+
+// ---- The rows of waits among a protocol's messages, by rule 4.
+
+// The rows of waits of n messages, by rule 4. The other rows are 0.
+pub fn waits_of(causes: [u32; 32], stalls: [u32; 32], n: usize) -> [u32; 32]
+    requires { ⌜ (n ≤ 32) × Tidy n causes × Tidy n stalls ⌝ }
+    ensures { λ r. ⌜ WaitsOnly n causes stalls r ⌝ }
+{
+    let mut closed = causes;
+    let mut waits = [0u32; 32];
+    crate::waits(&mut closed, &stalls, n, &mut waits);
+    waits
 }

@@ -1,6 +1,6 @@
 -- `cases::protocol_in` is safe and ends, and its tables are those of a reading. Assumes nothing.
 use mathlib.Core.Path.{sym, subst}
-use Rattle.protocol_laws.proofs.Accepted.{accepted-kept}
+use Rattle.reading_laws.proofs.protocols.Accepted.{accepted-kept}
 use Rattle.cases.specs.Fit.{Fit}
 use borrow.Author.Needs.{needs}
 use Rattle.cases.proofs.protocol_in.Statement.{statement}

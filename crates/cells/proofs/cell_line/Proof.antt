@@ -1,7 +1,7 @@
 -- `cells::cell_line` meets its contract.
 use mathlib.Core.Path.{sym, _∙_}
 use Rattle.text.specs.Parts.{split}
-use Rattle.cell_shapes.proofs.Shapes.{stall-shape, go-shape}
+use Rattle.cells.proofs.shapes.Shapes.{stall-shape, go-shape}
 use Rattle.cells.proofs.Judging.{misshapen, judged-told}
 use borrow.Author.Needs.{needs}
 use Rattle.cells.proofs.cell_line.Statement.{statement}

@@ -1,6 +1,6 @@
 -- `judge::judge` meets its contract.
 use borrow.Author.Needs.{needs}
-use Rattle.protocol_laws.proofs.Accepted.{call-ready}
+use Rattle.reading_laws.proofs.protocols.Accepted.{call-ready}
 use Rattle.judge.proofs.JudgeLaws.{call-refused, call-accepted}
 use Rattle.judge.proofs.judge.Statement.{statement}
 use Rattle.judge.proofs.judge.Tie as tie

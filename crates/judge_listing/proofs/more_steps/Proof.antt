@@ -7,7 +7,7 @@ use native.Mathlib.Omega.{arith}
 use Rattle.text.specs.Written.{Pasted}
 use Rattle.text.proofs.Written.{part-room}
 use Rattle.plan_listing.specs.PlanText.{firstMessages}
-use Rattle.step_lines.specs.StepLine.{lineOf}
+use Rattle.judge_listing.specs.step_lines.StepLine.{lineOf}
 use Rattle.judge_listing.specs.JudgeText.{wordIn}
 use Rattle.judge_listing.proofs.Places.{first-length}
 use Rattle.judge_listing.proofs.StepLines.{firstLines, lines-start, lines-kept, all-lines, line-room, line-pasted}

@@ -4,7 +4,7 @@ use Prim.Native.Nat.{_+_, _*_, _-_, _≤_}
 use lib.ListN.{length}
 use native.Mathlib.Omega.{arith}
 use Rattle.plan_listing.specs.PlanText.{firstMessages}
-use Rattle.step_lines.specs.StepLine.{lineOf}
+use Rattle.judge_listing.specs.step_lines.StepLine.{lineOf}
 use Rattle.judge_listing.specs.JudgeText.{wordIn}
 use Rattle.judge_listing.specs.Steps.{walkSteps}
 use Rattle.judge_listing.proofs.Places.{first-length}

@@ -6,11 +6,11 @@ use native.Mathlib.Omega.{arith}
 use Rattle.text.specs.Words.{unfitWord}
 use Rattle.text.specs.Written.{Wrote}
 use Rattle.text.proofs.Written.{more-room, then-more}
-use Rattle.fit_listing.specs.FitText.{verdictHead}
+use Rattle.judge_listing.specs.fit.FitText.{verdictHead}
 use Rattle.judge_listing.specs.JudgeText.{stepTexts, unfitText}
 use Rattle.judge_listing.specs.Steps.{walkSteps}
 use Rattle.answers.proofs.Listings.{listing-refused, listing-written}
-use Rattle.fit_listing.proofs.Lengths.{verdict-length}
+use Rattle.judge_listing.proofs.fit.Lengths.{verdict-length}
 use borrow.Author.Needs.{needs}
 use Rattle.judge_listing.proofs.unfit_listing.Statement.{statement}
 use Rattle.judge_listing.proofs.unfit_listing.Tie as tie

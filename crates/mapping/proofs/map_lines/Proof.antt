@@ -8,10 +8,10 @@ use borrow.Author.Tests.{not-true, not-false}
 use Rattle.text.specs.Parts.{part, place, split}
 use Rattle.tables.specs.declared.MessageRow.{MessageRow}
 use Rattle.tables.specs.declared.Kind.the-variants.{Req}
-use Rattle.maplines.specs.declared.MapLine.{MapLine}
+use Rattle.mapping.specs.declared.lines.MapLine.{MapLine}
 use Rattle.mapping.specs.Reading.{networkNo}
-use Rattle.map_shapes.specs.Shape.{shaped}
-use Rattle.maplines.specs.Line.{mapLine}
+use Rattle.mapping.specs.lines.Shape.{shaped}
+use Rattle.mapping.specs.lines.Line.{mapLine}
 use Rattle.mapping.proofs.ReadLaws.{Going, network-told, going-first, line-within, going-shape, going-many, going-refused, going-more, going-short, going-done}
 use Rattle.mapping.proofs.map_lines.Statement.{statement}
 use Rattle.mapping.proofs.map_lines.Tie as tie

@@ -1,6 +1,6 @@
 -- `plan::plan` meets its contract.
 use borrow.Author.Needs.{needs}
-use Rattle.protocol_laws.proofs.Accepted.{call-ready}
+use Rattle.reading_laws.proofs.protocols.Accepted.{call-ready}
 use Rattle.plan.proofs.PlanLaws.{call-refused, call-planned}
 use Rattle.plan.proofs.plan.Statement.{statement}
 use Rattle.plan.proofs.plan.Tie as tie

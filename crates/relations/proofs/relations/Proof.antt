@@ -2,8 +2,8 @@
 use mathlib.Core.Path.{subst}
 use lib.ListN.{length}
 use borrow.Author.Needs.{needs}
-use Rattle.call.specs.Call.{FirstOf, checks}
-use Rattle.call.proofs.Calls.{call-refused, call-planned}
+use Rattle.relations.specs.call.Call.{FirstOf, checks}
+use Rattle.relations.proofs.call.Calls.{call-refused, call-planned}
 use Rattle.relations.proofs.relations.Statement.{statement}
 use Rattle.relations.proofs.relations.Tie as tie
 

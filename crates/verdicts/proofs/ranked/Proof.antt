@@ -3,7 +3,7 @@ use Prim.Native.Nat.{_-_}
 use native.Mathlib.Omega.{arith}
 use borrow.Author.Needs.{needs}
 use Rattle.verdicts.specs.Leaves.{asNetwork}
-use Rattle.walked.proofs.Turning.{Turned, turned-none, turned-more, turned-all}
+use Rattle.verdicts.proofs.Turning.{Turned, turned-none, turned-more, turned-all}
 use Rattle.verdicts.proofs.Made.{class-three-made}
 use Rattle.verdicts.proofs.ranked.Statement.{statement}
 use Rattle.verdicts.proofs.ranked.Tie as tie

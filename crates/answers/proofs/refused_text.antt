@@ -1,0 +1,2 @@
+mod RefusedLaws
+pub mod RefusedLength

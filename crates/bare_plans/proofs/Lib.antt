@@ -1,2 +1,0 @@
-pub mod Plans
-pub mod Determined

@@ -1,0 +1,58 @@
+-- The cell of a line with `go`, from the place that it names and where it goes to.
+use Prim.Native.Nat.{ℕ}
+use mathlib.Core.Path.{_≡_, sym, ap, ap₂, _∙_}
+use mathlib.Core.Bool.{Bool, true, false, _&&_, _||_, cond, true≢false}
+use mathlib.Core.List.{List}
+use Rattle.tables.specs.declared.Controller.{Controller}
+use Rattle.tables.specs.declared.Outcome.the-variants.{Stall, Go}
+use Rattle.tables.specs.declared.MessageRow.{MessageRow}
+use Rattle.tables.specs.declared.EventRow.{EventRow}
+use Rattle.tables.specs.declared.StateRow.{StateRow}
+use Rattle.tables.specs.declared.Tables.{Tables}
+use Rattle.tables.specs.Given.{Declared}
+use Rattle.tables.proofs.Given.{messages-are, states-are}
+use Rattle.tables.specs.names.Names.{stateAt, isState}
+use Rattle.lines.specs.Line.{Line, field, cellController, sentFields, cellOf}
+use Rattle.lines.specs.Checks.{allMessages, knownCell, inStable}
+use Rattle.cells.specs.shapes.Shape.{Goes}
+use Rattle.cells.specs.declared.places.Place.{Place}
+use Rattle.cells.specs.places.Place.{PlaceTold}
+use Rattle.cells.specs.declared.targets.Target.{Target}
+use Rattle.cells.specs.targets.Target.{TargetTold}
+use Rattle.cells.specs.declared.readings.Reading.{Reading}
+use Rattle.cells.specs.readings.Known.{noReading, CellRead}
+use Rattle.cells.proofs.readings.Whole.{same-cell, unknown, parted, own}
+
+module _ (f : Line) (whose : Controller)
+    (messages : List MessageRow) (message-count : ℕ) (events : List EventRow) (event-count : ℕ) (states : List StateRow) (state-count : ℕ)
+    (p : Place) (at : PlaceTold f whose messages message-count events event-count states state-count p) where
+  module _ (g : Target) (to : TargetTold f whose messages message-count states state-count g) (s : Goes f whose) (k : p .known ≡ true) where
+    -- where it goes to is what is left to know
+    left : (t : Tables) → Declared t messages message-count events event-count states state-count → knownCell t f ≡ g .known
+    left t d =
+        parted f whose messages message-count events event-count states state-count p at t d (s .is)
+        ∙ ap₂ (λ (a c : Bool). a && (c || (isState t (cellController f) (field f 5) && allMessages t (sentFields f)))) k (s .word)
+        ∙ sym (to .known t (messages-are t messages message-count events event-count states state-count d) (states-are t messages message-count events event-count states state-count d)
+        ∙ ap (λ (w : Controller). isState t w (field f 5) && allMessages t (sentFields f)) (s .is))
+
+    pub not-targeted : (r : Reading) → g .known ≡ false → r ≡ noReading → CellRead f messages message-count events event-count states state-count r
+    not-targeted r e q = unknown f whose messages message-count events event-count states state-count p at r q (λ t d. left t d ∙ e)
+
+    pub going : g .known ≡ true
+        → CellRead f messages message-count events event-count states state-count (record {
+          known = true;
+          stuck = false;
+          cell = record { state = p .state; trigger = p .trigger; outcome = Go (g .next); sent = g .sent; «sent_count» = g .count };
+        })
+    unfolding cellOf
+    going e = record { known = λ t d. sym (left t d ∙ e); stuck = λ t d q. sym (ap (λ (a : Bool). a && inStable t f) (s .word)); cell = is-cell; cleared = λ q. absurd (true≢false q) }
+      where
+        is-cell : (t : Tables) → Declared t messages message-count events event-count states state-count → true ≡ true
+            → record { state = p .state; trigger = p .trigger; outcome = Go (g .next); sent = g .sent; «sent_count» = g .count } ≡ cellOf t f
+        is-cell t d q =
+            let am = messages-are t messages message-count events event-count states state-count d in
+            let own′ = states-are t messages message-count events event-count states state-count d in
+            same-cell (own f whose messages message-count events event-count states state-count p at t d (s .is) k) (at .trigger t d k)
+            (ap Go (to .next t am own′ e ∙ ap (λ (w : Controller). record { 0 = stateAt t w (field f 5) }) (s .is))
+            ∙ sym (ap (λ (a : Bool). cond a Stall (Go (record { 0 = stateAt t (cellController f) (field f 5) }))) (s .word)))
+            (to .sent t am e) (to .count e)

@@ -1,0 +1,74 @@
+-- What is known of a line's cell from the place that it names.
+use Prim.Native.Nat.{ℕ}
+use mathlib.Core.Path.{_≡_, sym, ap, _∙_}
+use mathlib.Core.Bool.{Bool, true, false, _&&_, _||_, and-assoc}
+use mathlib.Core.List.{List}
+use Rattle.rules.specs.declared.Message.{Message}
+use Rattle.rules.specs.declared.State.{State}
+use Rattle.text.specs.Words.{stallWord}
+use Rattle.tables.specs.declared.Controller.{Controller}
+use Rattle.tables.specs.declared.Trigger.{Trigger}
+use Rattle.tables.specs.declared.Outcome.{Outcome}
+use Rattle.tables.specs.declared.MessageRow.{MessageRow}
+use Rattle.tables.specs.declared.EventRow.{EventRow}
+use Rattle.tables.specs.declared.StateRow.{StateRow}
+use Rattle.tables.specs.declared.Cell.{Cell}
+use Rattle.tables.specs.declared.Tables.{Tables}
+use Rattle.tables.specs.Tables.{noCell}
+use Rattle.tables.specs.Given.{Declared}
+use Rattle.tables.specs.names.Names.{stateAt, isState}
+use Rattle.lines.specs.Line.{Line, field, says, cellController, sentFields}
+use Rattle.lines.specs.Checks.{isTrigger, allMessages, knownCell}
+use Rattle.lines.proofs.Both.{not-both}
+use Rattle.cells.specs.declared.places.Place.{Place}
+use Rattle.cells.specs.places.Place.{PlaceTold}
+use Rattle.cells.specs.declared.readings.Reading.{Reading}
+use Rattle.cells.specs.readings.Known.{noReading, CellRead}
+
+pub same-cell : {s s′ : State} {k k′ : Trigger} {o o′ : Outcome} {l l′ : List Message} {n n′ : ℕ} → s ≡ s′ → k ≡ k′ → o ≡ o′ → l ≡ l′ → n ≡ n′
+    → _≡_ {A = Cell} (record { state = s; trigger = k; outcome = o; sent = l; «sent_count» = n })
+    (record { state = s′; trigger = k′; outcome = o′; sent = l′; «sent_count» = n′ })
+same-cell a b c d e = cc
+
+module _ (f : Line) (whose : Controller)
+    (messages : List MessageRow) (message-count : ℕ) (events : List EventRow) (event-count : ℕ) (states : List StateRow) (state-count : ℕ)
+    (p : Place) (at : PlaceTold f whose messages message-count events event-count states state-count p) where
+  abbrev Read : Reading → Type 0
+  Read r = CellRead f messages message-count events event-count states state-count r
+
+  abbrev Decl : Tables → Type 0
+  Decl t = Declared t messages message-count events event-count states state-count
+
+  pub unknown : (r : Reading) → r ≡ noReading → ((t : Tables) → Decl t → knownCell t f ≡ false) → Read r
+  unknown r z h =
+      let k : r .known ≡ false = ap (λ (x : Reading). x .known) z in
+      record {
+        known = λ t d. k ∙ sym (h t d);
+        stuck = λ t d b. absurd (not-both (r .known) k b);
+        cell = λ t d b. absurd (not-both (r .known) k b);
+        cleared = λ b. z;
+      }
+
+  -- what is known is known at the place and behind it
+  pub parted : (t : Tables) → Decl t → (is : whose ≡ cellController f)
+      → knownCell t f
+      ≡ (p .known && (says f 4 stallWord || (isState t (cellController f) (field f 5) && allMessages t (sentFields f))))
+  parted t d is =
+      sym (ap (λ (b : Bool). b && (says f 4 stallWord || (isState t (cellController f) (field f 5) && allMessages t (sentFields f))))
+      (at .known t d ∙ ap (λ (w : Controller). isState t w (field f 2) && isTrigger t w (field f 3)) is)
+      ∙ and-assoc (isState t (cellController f) (field f 2)) (isTrigger t (cellController f) (field f 3))
+      (says f 4 stallWord || (isState t (cellController f) (field f 5) && allMessages t (sentFields f))))
+
+  pub not-placed : (r : Reading) → whose ≡ cellController f → p .known ≡ false → r ≡ noReading → Read r
+  not-placed r is k q =
+      unknown r q
+      (λ t d. parted t d is
+      ∙ ap (λ (b : Bool). b && (says f 4 stallWord || (isState t (cellController f) (field f 5) && allMessages t (sentFields f)))) k)
+
+  pub own : (t : Tables) → Decl t → whose ≡ cellController f → p .known ≡ true → p .state ≡ record { 0 = stateAt t (cellController f) (field f 2) }
+  own t d is k = at .state t d k ∙ ap (λ (w : Controller). record { 0 = stateAt t w (field f 2) }) is
+
+-- ---- a line that is not read
+
+pub unread-is : (x : Cell) → x ≡ noCell → _≡_ {A = Reading} (record { known = false; stuck = false; cell = x }) noReading
+unread-is x e = cc

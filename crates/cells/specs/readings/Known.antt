@@ -1,0 +1,29 @@
+-- The cell that a line stands for, where all that its fields name is declared and allowed there.
+use Prim.Native.Nat.{ℕ}
+use mathlib.Core.Path.{_≡_}
+use mathlib.Core.Bool.{true, false}
+use mathlib.Core.List.{List}
+use Rattle.tables.specs.declared.MessageRow.{MessageRow}
+use Rattle.tables.specs.declared.EventRow.{EventRow}
+use Rattle.tables.specs.declared.StateRow.{StateRow}
+use Rattle.tables.specs.declared.Tables.{Tables}
+use Rattle.tables.specs.Tables.{noCell}
+use Rattle.tables.specs.Given.{Declared}
+use Rattle.lines.specs.Line.{Line, cell, cellOf}
+use Rattle.lines.specs.Checks.{knownCell, stallInStable}
+use Rattle.cells.specs.declared.readings.Reading.{Reading}
+
+-- The answer where something is not known.
+abbrev pub noReading : Reading
+noReading = record { known = false; stuck = false; cell = noCell }
+
+pub record CellRead
+    (f : Line)
+    (messages : List MessageRow) (message-count : ℕ) (events : List EventRow) (event-count : ℕ) (states : List StateRow) (state-count : ℕ)
+    (r : Reading)
+    : Type 0 where
+  pub known : (t : Tables) → Declared t messages message-count events event-count states state-count → r .known ≡ knownCell t f
+  pub stuck : (t : Tables) → Declared t messages message-count events event-count states state-count → r .known ≡ true
+      → r .stuck ≡ stallInStable cell t f
+  pub cell : (t : Tables) → Declared t messages message-count events event-count states state-count → r .known ≡ true → r .cell ≡ cellOf t f
+  pub cleared : r .known ≡ false → r ≡ noReading

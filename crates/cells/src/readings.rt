@@ -1,0 +1,161 @@
+// What reading a cell's line gives.
+ghost use mathlib.Core.Path.{_≡_};
+ghost use Rattle.cells.specs.readings.Known.{noReading, CellRead};
+use tables::Cell;
+ghost use Prim.Native.Nat.{_≤_, _<_};
+ghost use lib.ListN.{getD, take};
+ghost use Rattle.text.specs.Parts.{split};
+ghost use Rattle.tables.specs.Tables.{noState};
+ghost use Rattle.lines.specs.Checks.{isStable};
+ghost use Rattle.lines.specs.Told.{FieldsAre};
+ghost use Rattle.cells.specs.shapes.Shape.{Stalls, Goes};
+use rules::Message;
+use rules::State;
+use tables::Controller;
+use tables::EventRow;
+use tables::MessageRow;
+use tables::Outcome;
+use tables::Stability;
+use tables::StateRow;
+use text::Fields;
+
+// A cell as it is read, where all that it names is known; it is stuck where it stalls in a stable state.
+pub struct Reading {
+    pub known: bool,
+    pub stuck: bool,
+    pub cell: Cell,
+}
+
+// A line whose fields name something that is not known.
+fn unread() -> Reading
+    ensures { λ r. ⌜ r ≡ noReading ⌝ }
+{
+    let cell = tables::no_cell();
+    Reading {
+        known: false,
+        stuck: false,
+        cell: cell,
+    }
+}
+
+// ---- The cell that a line with `stall` stands for.
+
+// Whether a declared state is a stable one.
+fn in_stable(states: [StateRow; 64], count: usize, state: State) -> bool
+    requires { ⌜ (state .0 < count) × (count ≤ 64) ⌝ }
+    ensures { λ r. ⌜ r ≡ isStable (getD (take count states) (state .0) noState .stability) ⌝ }
+{
+    let i = state.index();
+    let row = states[i];
+    let kind = row.stability;
+    match kind {
+        Stability::Stable => true,
+        Stability::Transient => false,
+    }
+}
+
+// The cell of a line with `stall`.
+pub(crate) fn stall_of(
+    line: &[u8],
+    f: Fields,
+    whose: Controller,
+    messages: [MessageRow; 32],
+    message_count: usize,
+    events: [EventRow; 8],
+    event_count: usize,
+    states: [StateRow; 64],
+    state_count: usize,
+) -> Reading
+    requires { ⌜ FieldsAre (now line) f × Stalls (split 9 (now line)) whose × («message_count» ≤ 32) × («event_count» ≤ 8) × («state_count» ≤ 64) ⌝ }
+    ensures { λ r. ⌜ CellRead (split 9 (now (line .entry))) messages «message_count» events «event_count» states «state_count» r ⌝ }
+{
+    let at = crate::places::place_of(
+        line,
+        f,
+        whose,
+        messages,
+        message_count,
+        events,
+        event_count,
+        states,
+        state_count,
+    );
+    if !at.known {
+        return unread();
+    }
+    let state = at.state;
+    let trigger = at.trigger;
+    let cell = Cell {
+        state: state,
+        trigger: trigger,
+        outcome: Outcome::Stall,
+        sent: [Message(0); 8],
+        sent_count: 0,
+    };
+    Reading {
+        known: true,
+        stuck: in_stable(states, state_count, state),
+        cell: cell,
+    }
+}
+
+// ---- The cell that a line with `go` stands for.
+
+// The cell of a line with `go`.
+pub(crate) fn go_of(
+    line: &[u8],
+    f: Fields,
+    whose: Controller,
+    messages: [MessageRow; 32],
+    message_count: usize,
+    events: [EventRow; 8],
+    event_count: usize,
+    states: [StateRow; 64],
+    state_count: usize,
+) -> Reading
+    requires { ⌜ FieldsAre (now line) f × Goes (split 9 (now line)) whose × («message_count» ≤ 32) × («event_count» ≤ 8) × («state_count» ≤ 64) ⌝ }
+    ensures { λ r. ⌜ CellRead (split 9 (now (line .entry))) messages «message_count» events «event_count» states «state_count» r ⌝ }
+{
+    let at = crate::places::place_of(
+        line,
+        f,
+        whose,
+        messages,
+        message_count,
+        events,
+        event_count,
+        states,
+        state_count,
+    );
+    if !at.known {
+        return unread();
+    }
+    let to = crate::targets::target_of(
+        line,
+        f,
+        whose,
+        messages,
+        message_count,
+        states,
+        state_count,
+    );
+    if !to.known {
+        return unread();
+    }
+    let state = at.state;
+    let trigger = at.trigger;
+    let next = to.next;
+    let sent = to.sent;
+    let cell = Cell {
+        state: state,
+        trigger: trigger,
+        outcome: Outcome::Go(next),
+        sent: sent,
+        sent_count: to.count,
+    };
+    Reading {
+        known: true,
+        stuck: false,
+        cell: cell,
+    }
+}

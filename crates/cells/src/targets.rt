@@ -1,0 +1,100 @@
+// Where a cell goes to, and what it sends.
+ghost use Prim.Native.Nat.{_≤_};
+ghost use Rattle.text.specs.Parts.{split};
+ghost use Rattle.lines.specs.Line.{sentFields};
+ghost use Rattle.lines.specs.Told.{FieldsAre};
+ghost use Rattle.cells.specs.targets.Target.{SentTold, TargetTold};
+use rules::Message;
+use rules::State;
+use tables::Controller;
+use tables::MessageRow;
+use tables::StateRow;
+use tables::names::FoundMessage;
+use tables::names::FoundState;
+use text::Fields;
+
+// The messages that a line sends, where all are known.
+pub struct Sent {
+    pub known: bool,
+    pub sent: [Message; 8],
+    pub count: u8,
+}
+
+// Where a cell goes to and what it sends, where all of that is known.
+pub struct Target {
+    pub known: bool,
+    pub next: State,
+    pub sent: [Message; 8],
+    pub count: u8,
+}
+
+// The messages sent, which the line names from field 6 on.
+fn sent_of(line: &[u8], f: Fields, messages: [MessageRow; 32], message_count: usize) -> Sent
+    requires { ⌜ FieldsAre (now line) f × (6 ≤ f .count) × (f .count ≤ 14) × («message_count» ≤ 32) ⌝ }
+    ensures { λ r. ⌜ SentTold (sentFields (split 9 (now (line .entry)))) messages «message_count» r ⌝ }
+{
+    let n = f.count - 6;
+    let mut sent = [Message(0); 8];
+    let mut j = 0;
+    while j < n {
+        let part = lines::field_at(line, f, 6 + j);
+        let found = tables::names::message_named(messages, message_count, part);
+        let FoundMessage::At(m) = found else {
+            let declared = false;
+            return Sent {
+                known: declared,
+                sent: [Message(0); 8],
+                count: 0,
+            };
+        };
+        sent[j] = m;
+        j += 1;
+    }
+    let count = n as u8;
+    Sent {
+        known: true,
+        sent: sent,
+        count: count,
+    }
+}
+
+// The next state and the messages sent.
+pub(crate) fn target_of(
+    line: &[u8],
+    f: Fields,
+    whose: Controller,
+    messages: [MessageRow; 32],
+    message_count: usize,
+    states: [StateRow; 64],
+    state_count: usize,
+) -> Target
+    requires { ⌜ FieldsAre (now line) f × (6 ≤ f .count) × (f .count ≤ 14) × («message_count» ≤ 32) × («state_count» ≤ 64) ⌝ }
+    ensures { λ r. ⌜ TargetTold (split 9 (now (line .entry))) whose messages «message_count» states «state_count» r ⌝ }
+{
+    let to = lines::field_at(line, f, 5);
+    let found = tables::names::state_named(states, state_count, whose, to);
+    let FoundState::At(next) = found else {
+        return Target {
+            known: false,
+            next: State(0),
+            sent: [Message(0); 8],
+            count: 0,
+        };
+    };
+    let all = sent_of(line, f, messages, message_count);
+    if !all.known {
+        return Target {
+            known: false,
+            next: State(0),
+            sent: [Message(0); 8],
+            count: 0,
+        };
+    }
+    let sent = all.sent;
+    Target {
+        known: true,
+        next: next,
+        sent: sent,
+        count: all.count,
+    }
+}

@@ -1,2 +1,0 @@
-pub mod Warshall
-pub mod Determined

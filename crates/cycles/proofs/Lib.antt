@@ -1,4 +1,0 @@
-pub mod Leaving
-pub mod Opening
-pub mod Starts
-pub mod Determined

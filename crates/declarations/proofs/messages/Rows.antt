@@ -1,0 +1,69 @@
+-- A line that declares a message: its number from what is tested, and what is then told of it.
+use Prim.Native.Nat.{ℕ, _+_}
+use mathlib.Core.Path.{_≡_, sym, ap, ap₂, _∙_}
+use mathlib.Core.Bool.{Bool, true, false, _||_, or-false}
+use mathlib.Core.List.{List}
+use native.Mathlib.Omega.{arith}
+use lib.Dec.{leb}
+use borrow.Author.Tests.{le-ltb}
+use Rattle.text.specs.Parts.{split}
+use Rattle.text.specs.Name.{nameRule, nameOf}
+use Rattle.text.specs.Words.{messageWord}
+use Rattle.text.specs.declared.Name.{Name}
+use Rattle.tables.specs.declared.Kind.{Kind}
+use Rattle.tables.specs.declared.MessageRow.{MessageRow}
+use Rattle.tables.specs.declared.Tables.{Tables}
+use Rattle.tables.specs.Tables.{noMessage}
+use Rattle.tables.specs.names.Names.{eventAt, isEvent}
+use Rattle.lines.specs.Line.{Line, field, says, message, kindOf, messageOf}
+use Rattle.lines.specs.Checks.{shaped}
+use Rattle.lines.specs.Told.{Refuses}
+use Rattle.lines.proofs.Numbers.{lineNumber, refuses}
+use Rattle.lines.proofs.Sections.{a-message}
+use Rattle.declarations.proofs.named_fields.Declares.{fourOf, declares}
+use Rattle.declarations.specs.named_fields.Known.{messageDeclared}
+use Rattle.declarations.proofs.named_fields.Named.{is-message}
+use Rattle.declarations.specs.declared.messages.MessageLine.{MessageLine}
+use Rattle.declarations.specs.messages.Told.{OnlyMessages, MessageTold}
+
+-- ---- its number
+
+abbrev pub messageNumber : Line → List MessageRow → ℕ → ℕ
+messageNumber f messages count = fourOf (shaped message f) (nameRule (field f 1)) (messageDeclared messages count (field f 1)) (leb 32 count)
+
+no-event-yet : (t : Tables) (x : List ℕ) → t .«event_count» ≡ 0 → isEvent t x ≡ false
+no-event-yet t x p = le-ltb (eventAt t x) (t .«event_count») (omega arith)
+
+module _ (t : Tables) (f : Line) where
+  pub message-number : (messages : List MessageRow) (count : ℕ) → OnlyMessages t messages count → lineNumber message t f ≡ messageNumber f messages count
+  unfolding lineNumber fourOf
+  message-number messages count o =
+      declares message t f (messageDeclared messages count (field f 1)) (leb 32 count)
+      (le-ltb 0 (t .«event_count» + t .«state_count» + t .«cell_count») (omega (arith, o .no-event, o .no-state, o .no-cell)))
+      (ap₂ (λ (x y : Bool). x || y) (is-message t (field f 1) messages count (o .rows) (o .many)) (no-event-yet t (field f 1) (o .no-event))
+      ∙ or-false (messageDeclared messages count (field f 1)))
+      (ap (λ (n : ℕ). leb 32 n) (o .many))
+
+-- ---- its row
+
+module _ (f : Line) where
+  pub message-row : (n : Name) (k : Kind) → n ≡ nameOf (field f 1) → k ≡ kindOf (field f 2) → _≡_ {A = MessageRow} (record { name = n; kind = k }) (messageOf f)
+  unfolding messageOf
+  message-row n k p q = cc
+
+-- ---- what is told
+
+module _ (line : List ℕ) (messages : List MessageRow) (count : ℕ) (first : says (split 9 line) 0 messageWord ≡ true) (r : MessageLine) where
+  message-told : (n : ℕ) → n ≡ messageNumber (split 9 line) messages count → r .number ≡ n → (t : Tables) → OnlyMessages t messages count → Refuses t line (r .number)
+  message-told n e q t o =
+      refuses line t message (r .number) (a-message (split 9 line) first) (message-number t (split 9 line) messages count o ∙ sym e ∙ sym q)
+
+  -- refused with a number
+  pub message-refused : (n : ℕ) → (n ≡ 0 → ⊥) → n ≡ messageNumber (split 9 line) messages count → (r .number ≡ n) × (r .row ≡ noMessage)
+      → MessageTold line messages count r
+  message-refused n h e q = record { told = message-told n e (q .0); row = λ z. absurd (h (sym (q .0) ∙ z)); cleared = λ z. q .1 }
+
+  -- taken
+  pub message-taken : 0 ≡ messageNumber (split 9 line) messages count → r .number ≡ 0 → r .row ≡ messageOf (split 9 line)
+      → MessageTold line messages count r
+  message-taken e q s = record { told = message-told 0 e q; row = λ z. s; cleared = λ z. absurd (z q) }

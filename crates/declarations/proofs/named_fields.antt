@@ -1,0 +1,2 @@
+pub mod Declares
+pub mod Named

@@ -1,0 +1,29 @@
+-- `declared_messages::message_declared` meets its contract.
+use mathlib.Core.Path.{sym, _∙_}
+use Rattle.declarations.proofs.named_fields.Named.{message-found, message-missing}
+use borrow.Author.Needs.{needs}
+use Rattle.declarations.proofs.named_fields.message_declared.Statement.{statement}
+use Rattle.declarations.proofs.named_fields.message_declared.Tie as tie
+
+field-at-requires : tie.Need-field-at-requires
+field-at-requires c κs = search needs
+
+message-named-requires : tie.Need-message-named-requires
+message-named-requires c κs = search needs
+
+enum-told : tie.Need-enum-told
+enum-told c = search needs
+
+enum-told-2 : tie.Need-enum-told-2
+enum-told-2 c = search needs
+
+returns : tie.Need-returns
+returns c = message-found _ _ _ (c .before .before .before .field-at .ensures) (sym (c .before .before .message-named .ensures) ∙ c .enum-told .given .1)
+
+returns-2 : tie.Need-returns-2
+returns-2 c = message-missing _ _ _ (c .before .before .before .field-at .ensures) (sym (c .before .before .message-named .ensures) ∙ c .enum-told2 .given .1)
+
+pub message-declared-spec : {M : Type 1} → statement M
+message-declared-spec =
+    tie.close
+    (tie.spec field-at-requires message-named-requires enum-told enum-told-2 returns returns-2)

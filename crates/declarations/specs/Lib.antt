@@ -1,0 +1,4 @@
+pub mod named_fields
+pub mod messages
+pub mod events
+pub mod states

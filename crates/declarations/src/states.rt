@@ -1,0 +1,87 @@
+// The lines that declare states: how each is refused, and what it stands for.
+ghost use mathlib.Core.Path.{_≡_};
+ghost use mathlib.Core.Bool.{true};
+ghost use Prim.Native.Nat.{_<_, _≤_};
+ghost use Rattle.text.specs.Parts.{split};
+ghost use Rattle.text.specs.Words.{stateWord};
+ghost use Rattle.tables.specs.Tables.{noState};
+ghost use Rattle.lines.specs.Line.{field, says};
+ghost use Rattle.lines.specs.Told.{FieldsAre};
+ghost use Rattle.declarations.specs.states.Told.{StateTold};
+ghost use Rattle.declarations.specs.states.Known.{stateDeclared};
+use lines::shapes::StateWords;
+use tables::Controller;
+use tables::Stability;
+use tables::StateRow;
+use tables::names::FoundState;
+use text::Fields;
+
+// The number of the refusal, 0 where there is none, and then the state.
+pub struct StateLine {
+    pub number: u8,
+    pub row: StateRow,
+}
+
+// A state's line that is refused.
+fn no_state(number: u8) -> StateLine
+    ensures { λ r. ⌜ (r .number ≡ number) × (r .row ≡ noState) ⌝ }
+{
+    let name = text::names::no_name();
+    let row = StateRow {
+        name: name,
+        controller: Controller::Cache,
+        stability: Stability::Stable,
+    };
+    StateLine {
+        number: number,
+        row: row,
+    }
+}
+
+// Whether field i is the name of a state of this controller that was read.
+fn state_declared(
+    line: &[u8],
+    f: Fields,
+    i: usize,
+    controller: Controller,
+    states: [StateRow; 64],
+    count: usize,
+) -> bool
+    requires { ⌜ FieldsAre (now line) f × (i < f .count) × (count ≤ 64) ⌝ }
+    ensures { λ r. ⌜ r ≡ stateDeclared states count controller (field (split 9 (now (line .entry))) i) ⌝ }
+{
+    let found = tables::names::state_named(states, count, controller, lines::field_at(line, f, i));
+    match found {
+        FoundState::At(_) => true,
+        FoundState::Nothing => false,
+    }
+}
+
+// A state's line, while no cell was read.
+pub fn state_line(line: &[u8], f: Fields, states: [StateRow; 64], count: usize) -> StateLine
+    requires { ⌜ FieldsAre (now line) f × (says (split 9 (now line)) 0 stateWord ≡ true) × (count ≤ 64) ⌝ }
+    ensures { λ r. ⌜ StateTold (now (line .entry)) states count r ⌝ }
+{
+    let StateWords::Are(controller, stability) = lines::shapes::state_shape(line, f) else {
+        return no_state(4);
+    };
+    if !crate::named_fields::name_fits(line, f, 2) {
+        return no_state(6);
+    }
+    if state_declared(line, f, 2, controller, states, count) {
+        return no_state(8);
+    }
+    if 64 <= count {
+        return no_state(9);
+    }
+    let name = crate::named_fields::name_at(line, f, 2);
+    let row = StateRow {
+        name: name,
+        controller: controller,
+        stability: stability,
+    };
+    StateLine {
+        number: 0,
+        row: row,
+    }
+}

@@ -1,2 +1,0 @@
-pub mod Named
-pub mod Determined

@@ -1,2 +1,0 @@
-pub mod Levels
-pub mod Determined

@@ -1,0 +1,17 @@
+// What the judging program has to say of two texts: the listing, or the line of a refusal.
+ghost use Prim.Native.Nat.{_≤_};
+ghost use lib.ListN.{length};
+ghost use Rattle.judge.specs.program.Printed.{JudgePrinted};
+
+// What the judging program prints. There is room for the longest answer within the limits.
+pub fn print_judgement(protocol: &[u8], mapping: &[u8], out: &mut [u8]) -> usize
+    requires { ⌜ 2048 ≤ length (now out) ⌝ }
+    ensures { λ r. ⌜ JudgePrinted (now (protocol .entry)) (now (mapping .entry)) (now (out .entry)) (now (out .exit)) r ⌝ }
+{
+    let a = crate::judge(protocol, mapping, out);
+    if a.number == 0 {
+        return a.length;
+    }
+    let line = a.line as u32;
+    answers::refused_text::put_refused(out, a.number, a.paper, line)
+}

@@ -1,2 +1,0 @@
-pub mod Misplacing
-pub mod Determined

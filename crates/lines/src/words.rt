@@ -1,0 +1,76 @@
+// The type of a message, as a field of a line says it.
+ghost use mathlib.Core.Path.{_≡_};
+ghost use Prim.Native.Nat.{_<_};
+ghost use Rattle.text.specs.Parts.{split};
+ghost use Rattle.lines.specs.Line.{field};
+ghost use Rattle.lines.specs.Told.{FieldsAre};
+ghost use Rattle.lines.specs.words.Found.{foundKind, foundController, foundStability};
+use tables::Controller;
+use tables::Kind;
+use tables::Stability;
+use text::Fields;
+
+pub enum FoundKind {
+    Is(Kind),
+    Nothing,
+}
+
+// The message type that field i says.
+pub(crate) fn kind_at(line: &[u8], f: Fields, i: usize) -> FoundKind
+    requires { ⌜ FieldsAre (now line) f × (i < f .count) ⌝ }
+    ensures { λ r. ⌜ r ≡ foundKind (field (split 9 (now (line .entry))) i) ⌝ }
+{
+    if crate::word_at(line, f, i, b"req") {
+        return FoundKind::Is(Kind::Req);
+    }
+    if crate::word_at(line, f, i, b"fwd") {
+        return FoundKind::Is(Kind::Fwd);
+    }
+    if crate::word_at(line, f, i, b"data") {
+        return FoundKind::Is(Kind::Data);
+    }
+    if crate::word_at(line, f, i, b"ctl") {
+        return FoundKind::Is(Kind::Ctl);
+    }
+    FoundKind::Nothing
+}
+
+// ---- The fixed words of a state: its controller, and whether it is stable or transient, as a field of a line says them.
+
+pub enum FoundController {
+    Is(Controller),
+    Nothing,
+}
+
+pub enum FoundStability {
+    Is(Stability),
+    Nothing,
+}
+
+// The controller that field i says.
+pub fn controller_at(line: &[u8], f: Fields, i: usize) -> FoundController
+    requires { ⌜ FieldsAre (now line) f × (i < f .count) ⌝ }
+    ensures { λ r. ⌜ r ≡ foundController (field (split 9 (now (line .entry))) i) ⌝ }
+{
+    if crate::word_at(line, f, i, b"cache") {
+        return FoundController::Is(Controller::Cache);
+    }
+    if crate::word_at(line, f, i, b"dir") {
+        return FoundController::Is(Controller::Dir);
+    }
+    FoundController::Nothing
+}
+
+// Whether field i says stable or transient.
+pub(crate) fn stability_at(line: &[u8], f: Fields, i: usize) -> FoundStability
+    requires { ⌜ FieldsAre (now line) f × (i < f .count) ⌝ }
+    ensures { λ r. ⌜ r ≡ foundStability (field (split 9 (now (line .entry))) i) ⌝ }
+{
+    if crate::word_at(line, f, i, b"stable") {
+        return FoundStability::Is(Stability::Stable);
+    }
+    if crate::word_at(line, f, i, b"transient") {
+        return FoundStability::Is(Stability::Transient);
+    }
+    FoundStability::Nothing
+}

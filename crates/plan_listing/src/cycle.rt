@@ -1,0 +1,95 @@
+// The listing of a class 2 plan: the line of the shown cycle.
+ghost use mathlib.Core.List.{_++_};
+ghost use Prim.Native.Nat.{_≤_};
+ghost use lib.ListN.{length};
+ghost use Rattle.text.specs.Name.{nameText};
+ghost use Rattle.text.specs.Words.{tab};
+ghost use Rattle.text.specs.Written.{Wrote};
+ghost use Rattle.answers.specs.Answers.{Listed};
+ghost use Rattle.plan_listing.specs.PlanText.{namesText, cycleLine, classTwo, firstMessages, MessagesBelow};
+ghost use Rattle.plan_listing.specs.Lengths.{TextLength};
+use answers::Answer;
+use rules::Message;
+use tables::MessageRow;
+use text::Name;
+
+// How many bytes a name has, with the tab before it.
+fn tabbed_length(name: Name) -> usize
+    ensures { λ r. ⌜ TextLength (tab ++ nameText name) 25 r ⌝ }
+{
+    1 + text::names::name_length(name)
+}
+
+// How many bytes the names of the messages have, each behind a tab.
+fn names_length(messages: [MessageRow; 32], cycle: [Message; 32], n: usize) -> usize
+    requires { ⌜ (n ≤ 32) × MessagesBelow n (firstMessages n cycle) ⌝ }
+    ensures { λ r. ⌜ TextLength (namesText messages (firstMessages n cycle)) 800 r ⌝ }
+{
+    let mut total = 0;
+    let mut j = 0;
+    while j < n {
+        let m = cycle[j];
+        let k = m.index();
+        let row = messages[k];
+        let name = row.name;
+        total += tabbed_length(name);
+        j += 1;
+    }
+    total
+}
+
+// A tab and a name.
+fn put_name(out: &mut [u8], name: Name) -> usize
+    requires { ⌜ length (tab ++ nameText name) ≤ length (now out) ⌝ }
+    ensures { λ r. ⌜ Wrote (tab ++ nameText name) (now (out .entry)) (now (out .exit)) r ⌝ }
+{
+    let a = text::put(out, b"\t");
+    text::writers::more_name(out, a, name)
+}
+
+// The names of these messages, each behind a tab.
+fn put_names(out: &mut [u8], messages: [MessageRow; 32], cycle: [Message; 32], n: usize) -> usize
+    requires { ⌜ (n ≤ 32) × MessagesBelow n (firstMessages n cycle) × (length (namesText messages (firstMessages n cycle)) ≤ length (now out)) ⌝ }
+    ensures { λ r. ⌜ Wrote (namesText messages (firstMessages n cycle)) (now (out .entry)) (now (out .exit)) r ⌝ }
+{
+    let mut at = 0;
+    let mut i = 0;
+    while i < n {
+        let m = cycle[i];
+        let k = m.index();
+        let row = messages[k];
+        let name = row.name;
+        at += put_name(&mut out[at..], name);
+        i += 1;
+    }
+    at
+}
+
+// The line of the shown cycle.
+fn put_cycle(out: &mut [u8], messages: [MessageRow; 32], cycle: [Message; 32], n: usize) -> usize
+    requires { ⌜ (n ≤ 32) × MessagesBelow n (firstMessages n cycle) × (length (cycleLine messages (firstMessages n cycle)) ≤ length (now out)) ⌝ }
+    ensures { λ r. ⌜ Wrote (cycleLine messages (firstMessages n cycle)) (now (out .entry)) (now (out .exit)) r ⌝ }
+{
+    let a = text::put(out, b"cycle");
+    let b = a + put_names(&mut out[a..], messages, cycle, n);
+    text::writers::more(out, b, b"\n")
+}
+
+// Class 2: the listing of a shown cycle, if there is room for it.
+pub fn cycle_listing(
+    messages: [MessageRow; 32],
+    cycle: [Message; 32],
+    n: usize,
+    out: &mut [u8],
+) -> Answer
+    requires { ⌜ (n ≤ 32) × MessagesBelow n (firstMessages n cycle) ⌝ }
+    ensures { λ r. ⌜ Listed (classTwo messages (firstMessages n cycle)) (now (out .entry)) (now (out .exit)) r ⌝ }
+{
+    let needed = 24 + names_length(messages, cycle, n);
+    if out.len() < needed {
+        return answers::no_room(needed);
+    }
+    let a = crate::put_head(out, 2);
+    let end = a + put_cycle(&mut out[a..], messages, cycle, n);
+    answers::listed(end)
+}

@@ -1,0 +1,216 @@
+-- Each refusal is given only under its row, and what is accepted are networks.
+use mathlib.Core.Path.{_≡_, refl, sym, ap, ap₂, _∙_, subst}
+use mathlib.Core.Bool.{Bool, true, false, not}
+use mathlib.Core.List.{List, [], _∷_, _++_, append-assoc, append-nil}
+use mathlib.Core.Logic.{_⊎_, inl, inr, ⊎-elim}
+use Prim.Native.Nat.{ℕ, zero, suc, _+_, _-_, _≤_, _<_}
+use native.Mathlib.Omega.{arith}
+use native.Mathlib.Nat.{add-zero}
+use lib.ListN.{length, getD, drop, replicate, List·getD-map, List·getD-eq-default}
+use lib.Seq.{drop-drop}
+use lib.Dec.{eqb, ltb}
+use borrow.Author.Tests.{eqb-true, eqb-false, not-false, ltb-true, ltb-false}
+use Rattle.rules.specs.declared.Network.{Network}
+use Rattle.text.specs.Parts.{split, lines}
+use Rattle.text.specs.Words.{mappingHeader}
+use Rattle.papers.specs.declared.Refusal.{Refusal}
+use Rattle.papers.specs.Checks.{check, refusal, firstOf}
+use Rattle.papers.specs.Opening.{openingChecks, openingOf, Opens}
+use Rattle.papers.proofs.Checks.{only-given, passed-by, numbered}
+use Rattle.papers.proofs.OpeningLaws.{opening-rows}
+use Rattle.tables.specs.declared.MessageRow.{MessageRow}
+use Rattle.tables.proofs.AllCells.{getD-zeros}
+use Rattle.mapping.specs.declared.Mapped.{Mapped}
+use Rattle.mapping.specs.lines.Shape.{field, shaped}
+use Rattle.mapping.specs.lines.Line.{matches, isNetwork, lineChecks, lineRefusal}
+use Rattle.mapping.specs.networks.Networks.{networkOf}
+use Rattle.mapping.specs.Reading.{networkNo, accepted, refused, readMaps, readMapping}
+use Rattle.mapping.specs.lines.Line.{restChecks}
+use Rattle.reading_laws.specs.mappings.Why.{Passed, BadLine, EndsEarly, Accepted, BadOpening, LinesAnswered, MappingAnswered, MappingAccepted, BadTold}
+use Rattle.mapping.proofs.ReadLaws.{maps-more, maps-stop, reading-refused, reading-opened}
+
+-- ---- a line that gives no refusal
+
+module _ (next : List MessageRow) (k : ℕ) (f : List (List ℕ)) (e : lineRefusal next k f .number ≡ 0) where
+  after-shape : (not (shaped f) ≡ false) × (firstOf (restChecks next k f) .number ≡ 0)
+  unfolding lineRefusal
+  after-shape = passed-by (check 4 k (not (shaped f))) (restChecks next k f) (λ z. omega arith) e
+
+  after-match : (not (matches next (field f 1)) ≡ false) × (firstOf (check 15 k (not (isNetwork (field f 2))) ∷ []) .number ≡ 0)
+  after-match = passed-by (check 14 k (not (matches next (field f 1)))) (check 15 k (not (isNetwork (field f 2))) ∷ []) (λ z. omega arith) (after-shape .1)
+
+  pub line-matches : matches next (field f 1) ≡ true
+  line-matches = not-false (matches next (field f 1)) (after-match .0)
+
+  pub line-network : networkOf (field f 2) < 32
+  line-network =
+      ltb-true (networkOf (field f 2)) 32
+      (not-false (isNetwork (field f 2)) (passed-by (check 15 k (not (isNetwork (field f 2)))) [] (λ z. omega arith) (after-match .1) .0))
+
+-- one message at least
+some-next : (next : List MessageRow) (x : List ℕ) → matches next x ≡ true → length next ≡ suc (length (drop 1 next))
+some-next [] x e = absurd (let q : _≡_ {A = ℕ} 0 1 = cc in omega arith)
+some-next (m ∷ next) x e = refl
+
+-- ---- the three ways that the lines can end
+
+-- Accepted, a bad line, or the text ends early.
+abbrev pub Answer : List MessageRow → ℕ → List (List ℕ) → List ℕ → Type 0
+Answer next k ls ns =
+    Accepted next k ls ns (readMaps k ls next ns) ⊎ (BadLine next k ls (readMaps k ls next ns) ⊎ EndsEarly next k ls (readMaps k ls next ns))
+
+module _ (next : List MessageRow) (k : ℕ) (l : List ℕ) (ls : List (List ℕ)) (e : lineRefusal next k (split 9 l) .number ≡ 0) where
+  more-at : (i : ℕ) → lineRefusal (drop i (drop 1 next)) (suc k + i) (split 9 (getD ls i [])) ≡ lineRefusal (drop (suc i) next) (k + suc i) (split 9 (getD (l ∷ ls) (suc i) []))
+  more-at i =
+      let p : suc k + i ≡ k + suc i = omega arith in
+      let q : drop i (drop 1 next) ≡ drop (suc i) next = drop-drop i 1 next ∙ ap (λ (j : ℕ). drop j next) (let s : 1 + i ≡ suc i = omega arith in s) in
+      ap₂ (λ (m : List MessageRow) (n : ℕ). lineRefusal m n (split 9 (getD ls i []))) q p
+
+  passed-more : (j : ℕ) → Passed (drop 1 next) (suc k) ls j → Passed next k (l ∷ ls) (suc j)
+  passed-more j h = record { lines = at }
+    where
+      at : (i : ℕ) → i < suc j → lineRefusal (drop i next) (k + i) (split 9 (getD (l ∷ ls) i [])) .number ≡ 0
+      at zero g = ap (λ (n : ℕ). lineRefusal next n (split 9 l) .number) (add-zero k) ∙ e
+      at (suc i) g = ap (λ (r : Refusal). r .number) (sym (more-at i)) ∙ h .lines i (omega arith)
+
+  -- the same answer, one line on
+  module _ (r s : Mapped) (on : r ≡ s) where
+    more-bad : BadLine (drop 1 next) (suc k) ls s → BadLine next k (l ∷ ls) r
+    more-bad b =
+        record {
+          place = suc (b .place);
+          below = omega (arith, b .below);
+          before = passed-more (b .place) (b .before);
+          bad = λ q. b .bad (ap (λ (m : Refusal). m .number) (more-at (b .place)) ∙ q);
+          is = on ∙ b .is ∙ ap refused (more-at (b .place));
+        }
+
+    module _ (step : length next ≡ suc (length (drop 1 next))) where
+      more-early : EndsEarly (drop 1 next) (suc k) ls s → EndsEarly next k (l ∷ ls) r
+      more-early d =
+          let q : suc k + length ls ≡ k + suc (length ls) = omega arith in
+          record {
+            before = passed-more (length ls) (d .before);
+            short = omega (arith, d .short);
+            is = on ∙ d .is ∙ ap (λ (j : ℕ). refused (refusal 14 j)) q;
+          }
+
+      more-accepted : (ns : List ℕ) → Accepted (drop 1 next) (suc k) ls (ns ++ (networkOf (field (split 9 l) 2) ∷ [])) s → Accepted next k (l ∷ ls) ns r
+      more-accepted ns a =
+          record {
+            before = passed-more (length ls) (a .before);
+            long = omega (arith, a .long);
+            ns = networkOf (field (split 9 l) 2) ∷ a .ns;
+            count = omega (arith, a .count);
+            gives = given;
+            below = at;
+            is = on ∙ a .is ∙ ap accepted (append-assoc ns (networkOf (field (split 9 l) 2) ∷ []) (a .ns));
+          }
+        where
+          given : (i : ℕ) → i < suc (length (a .ns)) → getD (networkOf (field (split 9 l) 2) ∷ a .ns) i 0 ≡ networkOf (field (split 9 (getD (l ∷ ls) i [])) 2)
+          given zero h = refl
+          given (suc i) h = a .gives i (omega arith)
+
+          at : (i : ℕ) → i < suc (length (a .ns)) → getD (networkOf (field (split 9 l) 2) ∷ a .ns) i 0 < 32
+          at zero h = line-network next k (split 9 l) e
+          at (suc i) h = a .below i (omega arith)
+
+pub answered : (ls : List (List ℕ)) (next : List MessageRow) (k : ℕ) (ns : List ℕ) → Answer next k ls ns
+unfolding readMaps
+answered [] [] k ns =
+    inl
+    (record {
+      before = record { lines = λ i h. absurd (omega arith) };
+      long = refl;
+      ns = [];
+      count = refl;
+      gives = λ i h. absurd (omega arith);
+      below = λ i h. absurd (omega arith);
+      is = ap accepted (sym (append-nil ns));
+    })
+answered [] (m ∷ next) k ns =
+    inr (inr (record { before = record { lines = λ i h. absurd (omega arith) }; short = omega arith; is = ap (λ (j : ℕ). refused (refusal 14 j)) (sym (add-zero k)) }))
+answered (l ∷ ls) next k ns =
+    go (eqb (lineRefusal next k (split 9 l) .number) 0) refl (answered ls (drop 1 next) (suc k) (ns ++ (networkOf (field (split 9 l) 2) ∷ [])))
+  where
+    go : (t : Bool) → eqb (lineRefusal next k (split 9 l) .number) 0 ≡ t → Answer (drop 1 next) (suc k) ls (ns ++ (networkOf (field (split 9 l) 2) ∷ []))
+        → Answer next k (l ∷ ls) ns
+    go true e w =
+        let z = eqb-true (lineRefusal next k (split 9 l) .number) 0 e in
+        let on = maps-more k l ls next ns z in
+        let step = some-next next (field (split 9 l) 1) (line-matches next k (split 9 l) z) in
+        ⊎-elim (λ (a : Accepted (drop 1 next) (suc k) ls (ns ++ (networkOf (field (split 9 l) 2) ∷ [])) (readMaps (suc k) ls (drop 1 next) (ns ++ (networkOf (field (split 9 l) 2) ∷ [])))).
+        inl (more-accepted next k l ls z (readMaps k (l ∷ ls) next ns) (readMaps (suc k) ls (drop 1 next) (ns ++ (networkOf (field (split 9 l) 2) ∷ []))) on step ns a))
+        (⊎-elim (λ (b : BadLine (drop 1 next) (suc k) ls (readMaps (suc k) ls (drop 1 next) (ns ++ (networkOf (field (split 9 l) 2) ∷ [])))).
+        inr (inl (more-bad next k l ls z (readMaps k (l ∷ ls) next ns) (readMaps (suc k) ls (drop 1 next) (ns ++ (networkOf (field (split 9 l) 2) ∷ []))) on b)))
+        (λ (d : EndsEarly (drop 1 next) (suc k) ls (readMaps (suc k) ls (drop 1 next) (ns ++ (networkOf (field (split 9 l) 2) ∷ [])))).
+        inr (inr (more-early next k l ls z (readMaps k (l ∷ ls) next ns) (readMaps (suc k) ls (drop 1 next) (ns ++ (networkOf (field (split 9 l) 2) ∷ []))) on step d)))) w
+    go false e w =
+        let z = eqb-false (lineRefusal next k (split 9 l) .number) 0 e in
+        let here : lineRefusal next k (split 9 l) ≡ lineRefusal next (k + 0) (split 9 l) = ap (λ (j : ℕ). lineRefusal next j (split 9 l)) (sym (add-zero k)) in
+        inr (inl (record {
+          place = 0;
+          below = omega arith;
+          before = record { lines = λ i h. absurd (omega arith) };
+          bad = λ q. z (ap (λ (r : Refusal). r .number) here ∙ q);
+          is = maps-stop k l ls next ns z ∙ ap refused here;
+        }))
+
+-- ---- the whole text
+
+-- every answer is under its row
+pub mapping-answered : MappingAnswered
+unfolding openingOf
+mapping-answered messages text = go (eqb (openingOf mappingHeader text .number) 0) refl
+  where
+    go : (t : Bool) → eqb (openingOf mappingHeader text .number) 0 ≡ t
+        → BadOpening text (readMapping messages text) ⊎ (Opens mappingHeader text × LinesAnswered messages text (readMapping messages text))
+    go true e =
+        let z = eqb-true (openingOf mappingHeader text .number) 0 e in
+        inr (z, subst (LinesAnswered messages text) (sym (reading-opened messages text z)) (answered (drop 1 (lines text)) messages 2 []))
+    go false e =
+        let z = eqb-false (openingOf mappingHeader text .number) 0 e in
+        inl (record { told = only-given (openingChecks mappingHeader text) (openingOf mappingHeader text .number) refl z; is = reading-refused messages text z })
+
+-- a mapping that is not refused gives each message a network
+pub mapping-accepted : MappingAccepted
+mapping-accepted messages text h =
+    ⊎-elim (λ (w : BadOpening text (readMapping messages text)). absurd (numbered (openingChecks mappingHeader text) (openingOf mappingHeader text) (opening-rows mappingHeader text) (w .told) (sym (ap (λ (r : Mapped). r .number) (w .is)) ∙ h)))
+    (λ (v : Opens mappingHeader text × LinesAnswered messages text (readMapping messages text)).
+    ⊎-elim (λ (w : Accepted messages 2 (drop 1 (lines text)) [] (readMapping messages text)). w)
+    (⊎-elim (λ (w : BadLine messages 2 (drop 1 (lines text)) (readMapping messages text)). absurd (w .bad (sym (ap (λ (r : Mapped). r .number) (w .is)) ∙ h)))
+    (λ (w : EndsEarly messages 2 (drop 1 (lines text)) (readMapping messages text)). absurd (omega (arith, ap (λ (r : Mapped). r .number) (w .is))))) (v .1))
+    (mapping-answered messages text)
+
+-- the row of a bad line
+pub bad-told : BadTold
+unfolding lineRefusal
+bad-told next k ls r w =
+    let cs = lineChecks (drop (w .place) next) (k + w .place) (split 9 (getD ls (w .place) [])) in
+    only-given cs (firstOf cs .number) refl (w .bad)
+
+-- ---- the networks that are given
+
+pub pad-at : (l : List ℕ) (n i : ℕ) → getD (l ++ replicate n 0) i 0 ≡ getD l i 0
+pad-at [] n i = getD-zeros n i
+pad-at (x ∷ l) n zero = refl
+pad-at (x ∷ l) n (suc i) = pad-at l n i
+
+module _ (next : List MessageRow) (k : ℕ) (ls : List (List ℕ)) (r : Mapped) (a : Accepted next k ls [] r) where
+  pub network-at : (i : ℕ) → getD (r .networks) i (networkNo 0) ≡ networkNo (getD (a .ns) i 0)
+  network-at i =
+      ap (λ (m : Mapped). getD (m .networks) i (networkNo 0)) (a .is)
+      ∙ List·getD-map networkNo (a .ns ++ replicate (32 - length (a .ns)) 0) i 0 ∙ ap networkNo (pad-at (a .ns) (32 - length (a .ns)) i)
+
+  -- all are below 32
+  pub networks-below : (i : ℕ) → getD (r .networks) i (networkNo 0) .0 < 32
+  networks-below i =
+      subst (λ (m : Network). m .0 < 32) (sym (network-at i)) (go (ltb i (length (a .ns))) refl)
+    where
+      go : (t : Bool) → ltb i (length (a .ns)) ≡ t → getD (a .ns) i 0 < 32
+      go true e = a .below i (ltb-true i (length (a .ns)) e)
+      go false e = omega (arith, List·getD-eq-default (a .ns) 0 {n = i} (ltb-false i (length (a .ns)) e))
+
+  -- past the last message they are 0
+  pub networks-past : (i : ℕ) → length next ≤ i → getD (r .networks) i (networkNo 0) ≡ networkNo 0
+  networks-past i h = network-at i ∙ ap networkNo (List·getD-eq-default (a .ns) 0 {n = i} (omega (arith, a .count)))

@@ -1,0 +1,3 @@
+pub mod mappings
+pub mod protocols
+pub mod bounds

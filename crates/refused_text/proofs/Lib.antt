@@ -1,3 +1,0 @@
-mod RefusedLaws
-pub mod RefusedLength
-pub mod Determined

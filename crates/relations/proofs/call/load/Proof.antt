@@ -1,0 +1,62 @@
+-- `call::load` meets its contract. Assumes nothing.
+use Prim.Native.Nat.{_-_}
+use native.Mathlib.Omega.{arith}
+use Rattle.rows.proofs.Filling.{Filling, fill-start}
+use Rattle.relations.proofs.call.Tables.{IsRow, load-step, load-end}
+use Rattle.relations.proofs.call.load.Statement.{statement}
+use Rattle.relations.proofs.call.load.Tie as tie
+
+abbrev Inv-loop : tie.InvT-loop
+Inv-loop table n rows₀ i₀ rows i = Filling (IsRow table) n rows₀ rows i
+
+abbrev μ-loop : tie.MeasureT-loop
+μ-loop table n rows₀ i₀ rows i = n - i
+
+loop-holds : tie.Need-loop-holds Inv-loop μ-loop
+loop-holds c = let a = c .before .before .args in fill-start (IsRow (a .table .now)) (a .n) (a .rows .now)
+
+row-at-requires : tie.Need-row-at-requires Inv-loop μ-loop
+row-at-requires c κs = omega arith
+
+mul-rows : tie.Need-mul-rows Inv-loop μ-loop
+mul-rows c = omega arith
+
+slice-write-rows : tie.Need-slice-write-rows Inv-loop μ-loop
+slice-write-rows c = omega arith
+
+add-i : tie.Need-add-i Inv-loop μ-loop
+add-i c = omega arith
+
+loop-less : tie.Need-loop-less Inv-loop μ-loop
+loop-less c = omega arith
+
+loop-again : tie.Need-loop-again Inv-loop μ-loop
+loop-again c =
+    let l = c .before .before .loop in
+    let a = c .before .before .before .before .before .args in
+    load-step (a .n) (a .table .now) (a .rows .now) (l .rows) (l .i) (c .row-at .result) (omega arith) (omega arith) (omega arith) (c .row-at .ensures) (l .inv)
+
+same-length : tie.Need-same-length Inv-loop μ-loop
+same-length c = c .before .loop .inv .long
+
+returns : tie.Need-returns Inv-loop μ-loop
+returns c =
+    let l = c .before .loop in
+    let a = c .before .before .before .before .args in
+    load-end (a .n) (a .table .now) (a .rows .now) (l .rows) (l .i) (omega arith) (l .inv)
+
+pub load-spec : {M : Type 1} → statement M
+load-spec =
+    tie.close
+    (tie.spec
+    Inv-loop
+    μ-loop
+    loop-holds
+    row-at-requires
+    mul-rows
+    slice-write-rows
+    add-i
+    loop-less
+    loop-again
+    same-length
+    returns)

@@ -1,0 +1,4 @@
+pub mod Tables
+pub mod Call
+pub mod Plans
+pub mod Packed

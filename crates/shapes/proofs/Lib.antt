@@ -1,3 +1,0 @@
-pub mod Counts
-pub mod Shaped
-pub mod Determined

@@ -1,3 +1,0 @@
-pub mod Layering
-pub mod Picks
-pub mod Determined

@@ -1,3 +1,0 @@
-pub mod AtCell
-pub mod Columns
-pub mod Determined

@@ -1,3 +1,0 @@
-pub mod Chains
-pub mod Lengths
-pub mod Determined

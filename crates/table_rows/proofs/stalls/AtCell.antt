@@ -1,0 +1,42 @@
+-- Rule 3 at one cell, and over the cells.
+use Prim.Native.Nat.{ℕ}
+use mathlib.Core.Path.{_≡_, refl, sym, subst, ap, _∙_}
+use mathlib.Core.Logic.{_↔_}
+use mathlib.Core.List.{List}
+use Rattle.rules.specs.declared.Message.{Message}
+use Rattle.rules.specs.declared.Event.{Event}
+use Rattle.rules.specs.declared.State.{State}
+use Rattle.rules.specs.Lists.{Some}
+use Rattle.rules.specs.Rules.{Carries, Stalls, message, stall, Cell as RuleCell}
+use Rattle.rules.proofs.Entry.{some-map, some-get}
+use Rattle.tables.specs.declared.Trigger.the-variants.{Message as OnMessage, Event as OnEvent}
+use Rattle.tables.specs.declared.Outcome.the-variants.{Stall, Go}
+use Rattle.tables.specs.declared.Cell.{Cell}
+use Rattle.tables.specs.Cells.{triggerOf, outcomeOf, cellOf}
+use Rattle.tables.proofs.Apart.{stall-not-go, event-not-message, same-message}
+use Rattle.table_rows.specs.stalls.AtCell.{CellStalls}
+
+module _ (d : Cell) (C : ℕ → ℕ → Type 0) where
+  pub go-stalls : (s : State) → d .outcome ≡ Go s → (a b : ℕ) → ¬ CellStalls C (cellOf d) a b
+  go-stalls s e a b t = stall-not-go (outcomeOf (d .outcome)) (s .0) (t .1) (ap outcomeOf e)
+
+  pub event-stalls : (n : Event) → d .trigger ≡ OnEvent n → (a b : ℕ) → ¬ CellStalls C (cellOf d) a b
+  event-stalls n e a b t = event-not-message (triggerOf (d .trigger)) (n .0) b (ap triggerOf e) (t .0)
+
+  pub message-stalls : (m : Message) → d .outcome ≡ Stall → d .trigger ≡ OnMessage m → (a b : ℕ) → (C a (d .state .0) × (b ≡ m .0)) ↔ CellStalls C (cellOf d) a b
+  message-stalls m e f a b = (
+    λ t. (ap triggerOf f ∙ ap message (sym (t .1)), ap outcomeOf e, t .0),
+    λ t. (t .2, same-message (triggerOf (d .trigger)) (m .0) b (ap triggerOf f) (t .0)),
+  )
+
+-- rule 3 cell by cell: a stall cell, and who carries to its state
+pub stalls-cells : (C : ℕ → ℕ → Type 0) (cells : List RuleCell) → ((a s : ℕ) → C a s ↔ Carries cells a s) → (a b : ℕ) → Some (λ c. CellStalls C c a b) cells ↔ Stalls cells a b
+stalls-cells C cells f a b = (
+  λ h. let r = some-get (λ c. CellStalls C c a b) cells h in (
+    r .0 .state,
+    r .2 (λ c. (c .state ≡ r .0 .state) × (c .trigger ≡ message b) × (c .outcome ≡ stall)) (refl, r .1 .0, r .1 .1),
+    f a (r .0 .state) .0 (r .1 .2),
+  ),
+  λ t. some-map (λ c. (c .state ≡ t .0) × (c .trigger ≡ message b) × (c .outcome ≡ stall)) (λ c. CellStalls C c a b)
+      (λ c q. (q .1, q .2, f a (c .state) .1 (subst (Carries cells a) (sym (q .0)) (t .2)))) cells (t .1),
+)

@@ -1,0 +1,4 @@
+pub mod causes
+pub mod carriers
+pub mod stalls
+pub mod entries

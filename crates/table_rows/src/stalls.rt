@@ -1,0 +1,74 @@
+// Rule 3: the rows of stalls, over all the cells.
+ghost use mathlib.Core.Logic.{_⊎_, _↔_};
+ghost use Prim.Native.Nat.{ℕ, _<_};
+ghost use Rattle.rows.specs.Rows.{Bit};
+ghost use Rattle.tables.specs.Cells.{cellOf, CellOk, TablesOk};
+ghost use Rattle.tables.specs.Relations.{Adds, StallsRows};
+ghost use Rattle.table_rows.specs.stalls.AtCell.{Among, CellStalls, Column};
+use tables::Cell;
+use tables::Outcome;
+use tables::Tables;
+use tables::Trigger;
+
+// The row of a, with b if a is among who.
+fn column(row: u32, who: u32, a: usize, b: usize) -> u32
+    requires { ⌜ (a < 32) × (b < 32) ⌝ }
+    ensures { λ r. ⌜ ((j : ℕ) → Bit r j ↔ (Bit row j ⊎ Column who b a j)) ⌝ }
+{
+    if rows::has(who, a) {
+        rows::with_bit(row, b)
+    } else {
+        row
+    }
+}
+
+// The rows with b in the row of each a among who.
+fn with_column(rows: [u32; 32], who: u32, b: usize) -> [u32; 32]
+    requires { ⌜ b < 32 ⌝ }
+    ensures { λ r. ⌜ Adds (Column who b) rows r ⌝ }
+{
+    let mut next = rows;
+    let mut a = 0;
+    while a < 32 {
+        next[a] = column(next[a], who, a, b);
+        a += 1;
+    }
+    next
+}
+
+// Rule 3 at one cell: the rows with who stalls d's message, if d stalls one.
+fn with_stalls(rows: [u32; 32], carriers: [u32; 64], d: Cell) -> [u32; 32]
+    requires { ⌜ CellOk 32 8 64 d ⌝ }
+    ensures { λ r. ⌜ Adds (CellStalls (Among carriers) (cellOf d)) rows r ⌝ }
+{
+    let o = d.outcome;
+    let t = d.trigger;
+    match o {
+        Outcome::Go(_) => rows,
+        Outcome::Stall => match t {
+            Trigger::Event(_) => rows,
+            Trigger::Message(m) => {
+                let s = d.state.index();
+                with_column(rows, carriers[s], m.index())
+            }
+        },
+    }
+}
+
+// Rule 3: which message stalls which.
+pub fn stalls_rows(t: Tables) -> [u32; 32]
+    requires { ⌜ TablesOk t ⌝ }
+    ensures { λ r. ⌜ StallsRows t r ⌝ }
+{
+    let carriers = crate::carriers::carrier_rows(t);
+    let n = t.cell_count;
+    let mut rows = [0u32; 32];
+    let mut i = 0;
+    while i < n {
+        let stalling = t.cells[i];
+        let next = with_stalls(rows, carriers, stalling);
+        rows = next;
+        i += 1;
+    }
+    rows
+}

@@ -1,3 +1,0 @@
-pub mod Sending
-pub mod Targeted
-pub mod Determined

@@ -1,0 +1,22 @@
+-- The judgement that rows of waits and steps give.
+use Prim.Native.Nat.{ℕ, _<_}
+use mathlib.Core.Path.{_≡_}
+use mathlib.Core.Logic.{_↔_}
+use mathlib.Core.List.{List}
+use lib.ListN.{getD}
+use Rattle.rules.specs.Rules.{Mapping, Step}
+use Rattle.rows.specs.Rows.{Bit}
+use Rattle.tables.specs.declared.Tables.{Tables}
+use Rattle.tables.specs.Cells.{relationsOfTables, TablesOk}
+use Rattle.verdicts.specs.declared.Judged.{Judged}
+use Rattle.verdicts.specs.Verdicts.{WaitsOf, JudgedIs}
+
+-- Bit k of row m says that a step leads from m to k.
+abbrev pub StepsOf : Tables → Mapping → List ℕ → Type 0
+StepsOf t φ steps = (m k : ℕ) → m < t .«message_count» → Bit (getD steps m 0) k ↔ Step (relationsOfTables t) φ m k
+
+-- r is the judgement for all tables with n messages, and all mappings, whose rows of waits and steps these are.
+abbrev pub RowsJudged : List ℕ → List ℕ → ℕ → Judged → Type 0
+RowsJudged waits steps n r =
+    (t : Tables) (φ : Mapping) → TablesOk t → 0 < n → t .«message_count» ≡ n → WaitsOf (relationsOfTables t) waits → StepsOf t φ steps
+    → JudgedIs (relationsOfTables t) φ r

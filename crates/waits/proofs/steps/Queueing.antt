@@ -1,0 +1,92 @@
+-- Rule 5 in rows: what the loops over the messages keep.
+use Prim.Native.Nat.{ℕ, _+_, _<_, _≤_, _^_}
+use mathlib.Core.Path.{_≡_, sym, subst}
+use mathlib.Core.Bool.{Bool, true, false}
+use mathlib.Core.Logic.{_⊎_, inl, inr, ⊎-elim, _≢_, _↔_}
+use mathlib.Core.List.{List, []}
+use native.Mathlib.Decide.{ℕ-discrete}
+use native.Mathlib.Omega.{arith}
+use lib.ListN.{getD, replicate}
+use Rattle.rules.specs.Rules.{Mapping, Queues}
+use Rattle.rows.specs.Rows.{Bit, ofRows}
+use Rattle.rows.specs.Row.{With, Join}
+use Rattle.rows.proofs.Bits.{bit-zero}
+use Rattle.rows.proofs.Filling.{Filling, fill-each, fill-kept}
+use Rattle.rows.proofs.Together.{Together}
+use Rattle.waits.specs.steps.Steps.{StepsRows, StalledRow, Behind, WithBehind, QueuesRow}
+
+-- all rows are taken in
+pub stalled-end : (stalls : List ℕ) (n all a : ℕ) → n ≤ a → Together stalls n all a → StalledRow stalls n all
+stalled-end stalls n all a h inv k = (
+  λ b. let t = inv .bits k .0 b in (t .0, omega (arith, t .1, inv .at-most), t .2),
+  λ t. inv .bits k .1 (t .0, omega (arith, t .1), t .2),
+)
+
+module _ (φ : Mapping) (stalled m : ℕ) where
+  pub behind-yes : (k row r : ℕ) → Behind φ stalled m k → With row k r → WithBehind φ stalled m k row r
+  behind-yes k row r h w j = (λ b. ⊎-elim inl (λ e. inr (e, h)) (w .bits j .0 b), λ x. w .bits j .1 (⊎-elim inl (λ y. inr (y .0)) x))
+
+  pub behind-no : (k row : ℕ) → ¬ Behind φ stalled m k → WithBehind φ stalled m k row row
+  behind-no k row g j = (inl, ⊎-elim (λ b. b) (λ y. absurd (g (y .1))))
+
+  -- they are in two networks
+  pub behind-parted : (k row : ℕ) → φ m ≢ φ k → WithBehind φ stalled m k row row
+  behind-parted k row g = behind-no k row (λ b. g (b .share))
+
+  -- the row of stalled messages does not have k
+  pub behind-free : (k row : ℕ) (r : Bool) → (r ≡ true) ↔ Bit stalled k → r ≡ false → WithBehind φ stalled m k row row
+  behind-free k row r f e = behind-no k row (λ b. not-so (f .1 (b .bit)))
+    where
+      not-so : ¬ (r ≡ true)
+      not-so d = absurd (let z : _≡_ {A = ℕ} 0 1 = cc in omega arith)
+
+  -- the bits of the row are those below k behind which m queues
+  pub record Queueing (k row : ℕ) : Type 0 where
+    pub small : row < 2 ^ 32
+    pub bits : (j : ℕ) → Bit row j ↔ ((j < k) × Behind φ stalled m j)
+
+  pub queueing-none : Queueing 0 0
+  queueing-none = record { small = omega arith; bits = λ j. (λ b. absurd (bit-zero j b), λ t. absurd (omega (arith, t .0))) }
+
+  pub queueing-more : (k row next : ℕ) → next < 2 ^ 32 → WithBehind φ stalled m k row next → Queueing k row → Queueing (k + 1) next
+  queueing-more k row next small w inv = record {
+    small = small;
+    bits = λ j. (
+      λ b. ⊎-elim (λ x. let t = inv .bits j .0 x in (omega (arith, t .0), t .1)) (λ x. (omega (arith, x .0), subst (Behind φ stalled m) (sym (x .0)) (x .1))) (w j .0 b),
+      λ t. w j .1 (pick j t (ℕ-discrete j k)),
+    );
+  }
+    where
+      pick : (j : ℕ) → (j < k + 1) × Behind φ stalled m j → Dec (j ≡ k) → Bit row j ⊎ ((j ≡ k) × Behind φ stalled m k)
+      pick j t (yes e) = inr (e, subst (Behind φ stalled m) e (t .1))
+      pick j t (no g) = inl (inv .bits j .1 (omega (arith, t .0), t .1))
+
+  pub queueing-all : (n k row : ℕ) → k ≡ n → Queueing k row → QueuesRow φ stalled n m row
+  queueing-all n k row e inv = subst (λ (i : ℕ). QueuesRow φ stalled i m row) e (inv .bits)
+
+-- row m has the waits and the queues steps
+abbrev pub IsSteps : List ℕ → Mapping → ℕ → ℕ → ℕ → ℕ → Type 0
+IsSteps waits φ stalled n m r = (k : ℕ) → Bit r k ↔ (Bit (getD waits m 0) k ⊎ ((k < n) × Behind φ stalled m k))
+
+pub steps-row : (waits : List ℕ) (φ : Mapping) (stalled n m q r : ℕ) → QueuesRow φ stalled n m q → Join (getD waits m 0) q r → IsSteps waits φ stalled n m r
+steps-row waits φ stalled n m q r f j k = (
+  λ b. ⊎-elim inl (λ x. inr (f k .0 x)) (j .bits k .0 b),
+  λ x. j .bits k .1 (⊎-elim inl (λ y. inr (f k .1 y)) x),
+)
+
+pub steps-end : (waits stalls : List ℕ) (φ : Mapping) (stalled n : ℕ) (rows : List ℕ) (i : ℕ) → n ≤ i → StalledRow stalls n stalled
+    → Filling (IsSteps waits φ stalled n) n (replicate 32 0) rows i → StepsRows waits stalls φ n rows
+steps-end waits stalls φ stalled n rows i h s f = record { bits = bits; kept = fill-kept (IsSteps waits φ stalled n) n (replicate 32 0) rows i h f }
+  where
+    queues : (m k : ℕ) → m < n → (k < n) × Behind φ stalled m k → Queues (ofRows n [] stalls) φ m k
+    queues m k l x =
+        let a = s k .0 (x .1 .bit) in
+        record { m-message = l; k-message = x .0; differ = x .1 .differ; share = x .1 .share; stalled = (a .0, record { i-below = a .1; j-below = x .0; bit = a .2 }) }
+
+    behind : (m k : ℕ) → Queues (ofRows n [] stalls) φ m k → (k < n) × Behind φ stalled m k
+    behind m k q = (q .k-message, record { differ = q .differ; share = q .share; bit = s k .1 (q .stalled .0, q .stalled .1 .i-below, q .stalled .1 .bit) })
+
+    bits : (m k : ℕ) → m < n → Bit (getD rows m 0) k ↔ (Bit (getD waits m 0) k ⊎ Queues (ofRows n [] stalls) φ m k)
+    bits m k l =
+        let t = fill-each (IsSteps waits φ stalled n) n (replicate 32 0) rows i h f m l k in
+        (λ b. ⊎-elim inl (λ x. inr (queues m k l x)) (t .0 b), λ x. t .1 (⊎-elim inl (λ q. inr (behind m k q)) x))

@@ -1,0 +1,59 @@
+-- `steps::stalled_of` meets its contract.
+use Prim.Native.Nat.{_-_, _<_, _^_}
+use native.Mathlib.Omega.{arith}
+use borrow.Author.Needs.{needs}
+use Rattle.rows.proofs.Together.{Together, together-start, together-step}
+use Rattle.waits.proofs.steps.Queueing.{stalled-end}
+use Rattle.waits.proofs.steps.stalled_of.Statement.{statement}
+use Rattle.waits.proofs.steps.stalled_of.Tie as tie
+
+abbrev Inv-loop : tie.InvT-loop
+Inv-loop n stalls all₀ a₀ all a = Together stalls n all a
+
+abbrev μ-loop : tie.MeasureT-loop
+μ-loop n stalls all₀ a₀ all a = n - a
+
+loop-holds : tie.Need-loop-holds Inv-loop μ-loop
+loop-holds c = together-start (c .args .t1) (c .args .n)
+
+mul-join : tie.Need-mul-join Inv-loop μ-loop
+mul-join c = omega arith
+
+array-read-join : tie.Need-array-read-join Inv-loop μ-loop
+array-read-join c = omega arith
+
+join-requires : tie.Need-join-requires Inv-loop μ-loop
+join-requires c κs = search needs
+
+add-a : tie.Need-add-a Inv-loop μ-loop
+add-a c = omega arith
+
+loop-less : tie.Need-loop-less Inv-loop μ-loop
+loop-less c = omega arith
+
+loop-again : tie.Need-loop-again Inv-loop μ-loop
+loop-again c =
+    let s = c .before .before .before in
+    let l = c .before .before .loop in
+    together-step (s .args .t1) (s .args .n) (l .all) (l .a) (c .join .result) (omega arith) (c .join .ensures) (let h : c .join .result < 2 ^ 32 = omega (arith, c .join .ok) in h) (l .inv)
+
+returns : tie.Need-returns Inv-loop μ-loop
+returns c =
+    let s = c .before .before in
+    let l = c .before .loop in
+    stalled-end (s .args .t1) (s .args .n) (l .all) (l .a) (omega arith) (l .inv)
+
+pub stalled-of-spec : {M : Type 1} → statement M
+stalled-of-spec =
+    tie.close
+    (tie.spec
+    Inv-loop
+    μ-loop
+    loop-holds
+    mul-join
+    array-read-join
+    join-requires
+    add-a
+    loop-less
+    loop-again
+    returns)

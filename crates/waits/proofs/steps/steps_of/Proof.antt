@@ -1,0 +1,84 @@
+-- `steps::steps_of` meets its contract.
+use Prim.Native.Nat.{_-_}
+use native.Mathlib.Omega.{arith}
+use lib.ListN.{replicate}
+use borrow.Author.Needs.{needs}
+use Rattle.rows.proofs.Filling.{Filling, fill-start, fill-step}
+use Rattle.waits.specs.steps.Steps.{mappingOf}
+use Rattle.waits.proofs.steps.Queueing.{IsSteps, steps-row, steps-end}
+use Rattle.waits.proofs.steps.steps_of.Statement.{statement}
+use Rattle.waits.proofs.steps.steps_of.Tie as tie
+
+abbrev Inv-loop : tie.InvT-loop
+Inv-loop networks n waits stalled steps₀ m₀ steps m = Filling (IsSteps waits (mappingOf networks) stalled n) n (replicate 32 0) steps m
+
+abbrev μ-loop : tie.MeasureT-loop
+μ-loop networks n waits stalled steps₀ m₀ steps m = n - m
+
+stalled-of-requires : tie.Need-stalled-of-requires Inv-loop μ-loop
+stalled-of-requires c κs = c .pre
+
+loop-holds : tie.Need-loop-holds Inv-loop μ-loop
+loop-holds c =
+    let a = c .before .args in
+    fill-start (IsSteps (a .t1) (mappingOf (a .networks)) (c .stalled-of .result) (a .n)) (a .n) (replicate 32 0)
+
+mul-join : tie.Need-mul-join Inv-loop μ-loop
+mul-join c = omega arith
+
+array-read-join : tie.Need-array-read-join Inv-loop μ-loop
+array-read-join c = omega arith
+
+queues-row-requires : tie.Need-queues-row-requires Inv-loop μ-loop
+queues-row-requires c κs = (c .before .before .before .pre, omega arith)
+
+join-requires : tie.Need-join-requires Inv-loop μ-loop
+join-requires c κs = search needs
+
+mul-steps : tie.Need-mul-steps Inv-loop μ-loop
+mul-steps c = omega arith
+
+array-write-steps : tie.Need-array-write-steps Inv-loop μ-loop
+array-write-steps c = omega arith
+
+add-m : tie.Need-add-m Inv-loop μ-loop
+add-m c = omega arith
+
+loop-less : tie.Need-loop-less Inv-loop μ-loop
+loop-less c = omega arith
+
+loop-again : tie.Need-loop-again Inv-loop μ-loop
+loop-again c =
+    let s = c .before .before .before .before .before in
+    let a = s .args in
+    let d = c .before .before .before .before .stalled-of .result in
+    let l = c .before .before .before .loop in
+    let q = c .before .queues-row in
+    fill-step (IsSteps (a .t1) (mappingOf (a .networks)) d (a .n)) (a .n) (replicate 32 0) (l .steps) (l .m) (c .join .result) (s .pre) (omega arith)
+    (steps-row (a .t1) (mappingOf (a .networks)) d (a .n) (l .m) (q .result) (c .join .result) (q .ensures) (c .join .ensures)) (l .inv)
+
+returns : tie.Need-returns Inv-loop μ-loop
+returns c =
+    let a = c .before .before .before .args in
+    let d = c .before .before .stalled-of in
+    let l = c .before .loop in
+    steps-end (a .t1) (a .stalls) (mappingOf (a .networks)) (d .result) (a .n) (l .steps) (l .m) (omega arith) (d .ensures) (l .inv)
+
+pub steps-of-spec : {M : Type 1} → statement M
+steps-of-spec =
+    tie.close
+    (tie.spec
+    Inv-loop
+    μ-loop
+    stalled-of-requires
+    loop-holds
+    mul-join
+    array-read-join
+    queues-row-requires
+    join-requires
+    mul-steps
+    array-write-steps
+    add-m
+    loop-less
+    loop-again
+    returns)

@@ -1,2 +1,0 @@
-pub mod Turning
-pub mod Determined

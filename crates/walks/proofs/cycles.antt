@@ -1,0 +1,5 @@
+pub mod Leaving
+pub mod Opening
+pub mod Starts
+pub mod Layering
+pub mod Picks

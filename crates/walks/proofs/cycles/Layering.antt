@@ -1,0 +1,58 @@
+-- The table of layers: from which numbers x is reached in how many steps.
+use Prim.Native.Nat.{ℕ, zero, suc, _+_, _<_, _≤_}
+use mathlib.Core.Path.{_≡_, _∙_}
+use mathlib.Core.Logic.{_↔_}
+use mathlib.Core.List.{List}
+use native.Mathlib.Decide.{ℕ-discrete}
+use native.Mathlib.Omega.{arith}
+use native.Mathlib.Numerals.{add-one}
+use lib.ListN.{length, getD, set, length-set}
+use lib.Seq.{getD-set-same, getD-set-other}
+use Rattle.rules.specs.Walks.{Exactly}
+use Rattle.rows.specs.Rows.{Bit, Rows}
+use Rattle.walks.specs.Sets.{Into, Layers}
+
+pub exactly-small : (s : List ℕ) (n k y x : ℕ) → x < n → Exactly (Rows n s) k y x → y < n
+exactly-small s n zero y x h e = rw e h
+exactly-small s n (suc k) y x h t = t .1 .i-below
+
+-- ---- the loop of `layers`
+
+module _ (s : List ℕ) (n x : ℕ) where
+  -- the row is the layer of k steps
+  abbrev pub Layer : ℕ → ℕ → Type 0
+  Layer k row = (y : ℕ) → Bit row y ↔ Exactly (Rows n s) k y x
+
+  pub record LayersInv (sets : List ℕ) (now k : ℕ) : Type 0 where
+    pub room : length sets ≡ 32
+    pub small : k < 32
+    pub now-is : Layer k now
+    pub layers : Layers s n x (k + 1) sets
+
+  pub layers-start : (sets : List ℕ) (v : ℕ) → length sets ≡ 32 → ((y : ℕ) → Bit v y ↔ (y ≡ x)) → LayersInv (set sets 0 v) v 0
+  layers-start sets v e f = record { room = length-set sets 0 v ∙ e; small = omega arith; now-is = f; layers = first }
+    where
+      first : Layers s n x (0 + 1) (set sets 0 v)
+      first zero h = rw (getD-set-same sets 0 v 0 (omega arith)) f
+      first (suc k) h = absurd (omega arith)
+
+  pub layers-step : (sets : List ℕ) (now k next : ℕ) → x < n → k + 1 < 32 → Into s n now next → LayersInv sets now k → LayersInv (set sets (k + 1) next) next (k + 1)
+  layers-step sets now k next hx hk i inv = record {
+    room = length-set sets (k + 1) next ∙ inv .room;
+    small = hk;
+    now-is = rw (add-one k) next-is;
+    layers = λ j h. go j h (ℕ-discrete j (k + 1));
+  }
+    where
+      next-is : Layer (suc k) next
+      next-is y = (
+        λ b. let t = i .bits y .0 b in let e = inv .now-is (t .1 .0) .0 (t .1 .2) in (t .1 .0, record { i-below = t .0; j-below = exactly-small s n k (t .1 .0) x hx e; bit = t .1 .1 }, e),
+        λ t. i .bits y .1 (t .1 .i-below, (t .0, t .1 .bit, inv .now-is (t .0) .1 (t .2))),
+      )
+
+      go : (j : ℕ) → j < k + 1 + 1 → Dec (j ≡ k + 1) → Layer j (getD (set sets (k + 1) next) j 0)
+      go j h (yes e) = rw (e, getD-set-same sets (k + 1) next 0 (omega (arith, inv .room)), add-one k) next-is
+      go j h (no q) = rw (getD-set-other sets (k + 1) j next 0 q) (inv .layers j (omega arith))
+
+  pub layers-end : (sets : List ℕ) (now k len : ℕ) → len ≤ k + 1 → LayersInv sets now k → Layers s n x len sets
+  layers-end sets now k len h inv = λ j q. inv .layers j (omega arith)

@@ -1,0 +1,289 @@
+-- Heights: what the loops keep, and that the table of sets gives the heights.
+use Prim.Native.Nat.{ℕ, zero, suc, _+_, _-_, _<_, _≤_, _/_, _^_}
+use mathlib.Core.Path.{_≡_, refl, sym, subst, ap, _∙_}
+use mathlib.Core.Logic.{_⊎_, inl, inr, _↔_}
+use mathlib.Core.List.{List, [], _∷_, _++_}
+use native.Mathlib.Decide.{ℕ-discrete, decLt, decLe}
+use native.Mathlib.Omega.{arith}
+use native.Mathlib.Nat.{zero-add, suc-add}
+use native.Mathlib.Numerals.{add-one}
+use lib.ListN.{length, getD, set, drop, length-set}
+use lib.Seq.{getD-set-same, getD-set-other, drop-set-lt}
+use lib.Bits.{bitAnd}
+use lib.Count.{trailingZeros}
+use Rattle.rules.specs.Lists.{Distinct}
+use Rattle.rules.specs.Walks.{Rel, Chain, Plus}
+use Rattle.rules.specs.Plan.{Height}
+use Rattle.rules.proofs.Pigeon.{at-most}
+use Rattle.rules.proofs.Cycle.{distinct-or, Repeat, chain-left, chain-right}
+use Rattle.rules.proofs.Heights.{chain-in}
+use Rattle.rows.specs.Rows.{Bit, Rows}
+use Rattle.rows.proofs.Bits.{bit-zero, bit-test, lowest}
+use Rattle.walks.specs.Walks.{Heights}
+use Rattle.walks.specs.Sets.{Into, Steps, Levels, Rounds, Sinks, Last, Written}
+
+-- ---- chains of k steps
+
+module _ (R : Rel) (n : ℕ) (within : (a b : ℕ) → R a b → (a < n) × (b < n)) where
+  steps-chain : (k m : ℕ) → Steps R n k m → (l : List ℕ) × Chain R m l × (length l ≡ k)
+  steps-chain zero m s = ([], tt, refl)
+  steps-chain (suc k) m s = let t = steps-chain k (s .0) (s .2) in (s .0 ∷ t .0, (s .1, t .1), ap suc (t .2))
+
+  chain-steps : (m : ℕ) (l : List ℕ) → m < n → Chain R m l → Steps R n (length l) m
+  chain-steps m [] h c = h
+  chain-steps m (b ∷ l) h c = (b, c .0, chain-steps b l (within m b (c .0) .1) (c .1))
+
+  steps-small : (k m : ℕ) → Steps R n k m → m < n
+  steps-small zero m s = s
+  steps-small (suc k) m s = within m (s .0) (s .1) .0
+
+  steps-pred : (k m : ℕ) → Steps R n (suc k) m → Steps R n k m
+  steps-pred zero m s = within m (s .0) (s .1) .0
+  steps-pred (suc k) m s = (s .0, s .1, steps-pred k (s .0) (s .2))
+
+  steps-less : (i k m : ℕ) → i ≤ k → Steps R n k m → Steps R n i m
+  steps-less i zero m h s = subst (λ (j : ℕ). Steps R n j m) (zero-is i h) s
+    where
+      zero-is : (i : ℕ) → i ≤ 0 → 0 ≡ i
+      zero-is i h = omega arith
+  steps-less i (suc k) m h s = go (λ q. steps-less i k m q (steps-pred k m s)) (ℕ-discrete i (suc k))
+    where
+      go : (i ≤ k → Steps R n i m) → Dec (i ≡ suc k) → Steps R n i m
+      go f (yes e) = rw e s
+      go f (no d) = f (omega arith)
+
+  -- where a round loses nobody, none of the later ones does
+  steps-stay : (k : ℕ) → ((m : ℕ) → Steps R n k m → Steps R n (suc k) m) → (j m : ℕ) → Steps R n k m → Steps R n (j + k) m
+  steps-stay k f zero m s = subst (λ (i : ℕ). Steps R n i m) (sym (zero-add k)) s
+  steps-stay k f (suc j) m s = let t = f m s in subst (λ (i : ℕ). Steps R n i m) (sym (suc-add j k)) (t .0, t .1, steps-stay k f j (t .0) (t .2))
+
+  abbrev ChainL : List ℕ → Type 0
+  ChainL [] = Unit {0}
+  ChainL (m ∷ l) = Chain R m l
+
+  goes-round : (u : List ℕ) (x : ℕ) (v w : List ℕ) → ChainL (u ++ x ∷ (v ++ x ∷ w)) → Plus R x x
+  goes-round [] x v w c = (v, chain-left R x x v w c)
+  goes-round (a ∷ u) x v w c = (v, chain-left R x x v w (chain-right R a x u (v ++ x ∷ w) c))
+
+  -- a chain with as many steps as there are numbers goes round
+  long-cycle : (m : ℕ) → Steps R n n m → (a : ℕ) × Plus R a a
+  long-cycle m s = go (distinct-or (m ∷ t .0))
+    where
+      t : (l : List ℕ) × Chain R m l × (length l ≡ n)
+      t = steps-chain n m s
+
+      go : Distinct (m ∷ t .0) ⊎ Repeat (m ∷ t .0) → (a : ℕ) × Plus R a a
+      go (inl d) = absurd (omega (arith, at-most n (m ∷ t .0) d (chain-in R n within m (t .0) (steps-small n m s) (t .1)), t .2))
+      go (inr r) = (r .x, goes-round (r .u) (r .x) (r .v) (r .w) (subst ChainL (r .is) (t .1)))
+
+-- ---- the loop of `rounds`
+
+pub rows-within : (n : ℕ) (w : List ℕ) (a b : ℕ) → Rows n w a b → (a < n) × (b < n)
+rows-within n w a b r = (r .i-below, r .j-below)
+
+module _ (w : List ℕ) (n : ℕ) where
+  abbrev Can : ℕ → ℕ → Type 0
+  Can k m = Steps (Rows n w) n k m
+
+  abbrev Are : ℕ → ℕ → Type 0
+  Are row k = (m : ℕ) → Bit row m ↔ Can k m
+
+  pub record RoundsInv (sets : List ℕ) (now k : ℕ) : Type 0 where
+    pub at-most : k ≤ n
+    pub room : length sets ≡ 33
+    pub now-is : Are now k
+    pub sets-are : (j : ℕ) → j ≤ k → Are (getD sets j 0) j
+    pub some : (m : ℕ) × Can k m
+
+  pub rounds-start : (sets : List ℕ) (v : ℕ) → 1 ≤ n → length sets ≡ 33 → ((m : ℕ) → Bit v m ↔ (m < n)) → RoundsInv (set sets 0 v) v 0
+  rounds-start sets v h q f = record {
+    at-most = omega arith;
+    room = length-set sets 0 v ∙ q;
+    now-is = f;
+    sets-are = first;
+    some = (0, omega arith);
+  }
+    where
+      first : (j : ℕ) → j ≤ 0 → Are (getD (set sets 0 v) j 0) j
+      first zero k = rw (getD-set-same sets 0 v 0 (omega arith)) f
+      first (suc j) k = absurd (omega arith)
+
+  next-are : (now next k : ℕ) → Are now k → Into w n now next → Are next (suc k)
+  next-are now next k f i m = (
+    λ b. let t = i .bits m .0 b in let s = f (t .1 .0) .0 (t .1 .2) in
+        (t .1 .0, record { i-below = t .0; j-below = steps-small (Rows n w) n (rows-within n w) k (t .1 .0) s; bit = t .1 .1 }, s),
+    λ s. i .bits m .1 (s .1 .i-below, (s .0, s .1 .bit, f (s .0) .1 (s .2))),
+  )
+
+  pub all-cycle : (m : ℕ) → Can n m → (a : ℕ) × Plus (Rows n w) a a
+  all-cycle m s = long-cycle (Rows n w) n (rows-within n w) m s
+
+  cyclic-rounds : (sets : List ℕ) → (a : ℕ) × Plus (Rows n w) a a → Rounds w n sets 0
+  cyclic-rounds sets t = record { cyclic = λ _. t; levels = λ d. absurd (d refl) }
+
+  module _ (sets : List ℕ) (now k next : ℕ) (hn : n ≤ 32) (hk : k < n) (inv : RoundsInv sets now k) (i : Into w n now next) where
+    -- the round lost nobody
+    pub rounds-stuck : next ≡ now → Rounds w n sets 0
+    rounds-stuck e =
+        let stay : (m : ℕ) → Can k m → Can (suc k) m = λ m s. next-are now next k (inv .now-is) i m .0 (rw e (inv .now-is m .1 s)) in
+        let f : n - k + k ≡ n = omega arith in
+        let t = inv .some in
+        cyclic-rounds sets (all-cycle (t .0) (subst (λ (j : ℕ). Can j (t .0)) f (steps-stay (Rows n w) n (rows-within n w) k stay (n - k) (t .0) (t .1))))
+
+    abbrev sets′ : List ℕ
+    sets′ = set sets (k + 1) next
+
+    fits : k + 1 < length sets
+    fits = omega (arith, inv .room)
+
+    kept : (j : ℕ) → j ≤ k + 1 → Are (getD sets′ j 0) j
+    kept j q = go (ℕ-discrete j (k + 1))
+      where
+        go : Dec (j ≡ k + 1) → Are (getD sets′ j 0) j
+        go (yes e) = rw (e, getD-set-same sets (k + 1) next 0 fits, add-one k) (next-are now next k (inv .now-is) i)
+        go (no d) = rw (getD-set-other sets (k + 1) j next 0 d) (inv .sets-are j (omega arith))
+
+    -- nobody is left
+    pub rounds-end : next ≡ 0 → Rounds w n sets′ (k + 1)
+    rounds-end e = record {
+      cyclic = λ z. absurd (omega (arith, z));
+      levels = λ _. record {
+        fits = omega arith;
+        sets-are = kept;
+        empty = getD-set-same sets (k + 1) next 0 fits ∙ e;
+        some = λ j q. rw (same j q) (inv .some);
+      };
+    }
+      where
+        same : (j : ℕ) → k + 1 ≡ suc j → j ≡ k
+        same j q = omega (arith, q)
+
+    pub rounds-step : next < 2 ^ 32 → ¬ (next ≡ 0) → RoundsInv sets′ next (k + 1)
+    rounds-step small d = record {
+      at-most = omega arith;
+      room = length-set sets (k + 1) next ∙ inv .room;
+      now-is = rw (add-one k) (next-are now next k (inv .now-is) i);
+      sets-are = kept;
+      some = (trailingZeros 32 next, rw (add-one k) (next-are now next k (inv .now-is) i (trailingZeros 32 next) .0 (lowest 32 next small d .1)));
+    }
+
+  -- somebody is left at round n
+  pub rounds-full : (sets : List ℕ) (now k : ℕ) → n ≤ k → RoundsInv sets now k → Rounds w n sets 0
+  rounds-full sets now k h inv =
+      let e : k ≡ n = omega (arith, inv .at-most) in
+      let t = inv .some in
+      cyclic-rounds sets (all-cycle (t .0) (subst (λ (j : ℕ). Can j (t .0)) e (t .1)))
+
+-- ---- the loop of `last`
+
+pub record LastInv (sets : List ℕ) (m h : ℕ) : Type 0 where
+  pub small : h < 32
+  pub in-it : (j : ℕ) → j ≤ h → Bit (getD sets j 0) m
+
+module _ (sets : List ℕ) (m : ℕ) where
+  pub last-start : Bit (getD sets 0 0) m → LastInv sets m 0
+  last-start b = record { small = omega arith; in-it = λ j q. rw (none j q) b }
+    where
+      none : (j : ℕ) → j ≤ 0 → j ≡ 0
+      none j q = omega arith
+
+  pub last-step : (h : ℕ) → Sinks sets → bitAnd (getD sets (h + 1) 0 / 2 ^ m) 1 ≡ 1 → LastInv sets m h → LastInv sets m (h + 1)
+  last-step h sinks e inv = record { small = go (decLt (h + 1) 32); in-it = more }
+    where
+      more : (j : ℕ) → j ≤ h + 1 → Bit (getD sets j 0) m
+      more j q = pick (ℕ-discrete j (h + 1))
+        where
+          pick : Dec (j ≡ h + 1) → Bit (getD sets j 0) m
+          pick (yes f) = rw f (sym (bit-test (getD sets (h + 1) 0) m) ∙ e)
+          pick (no d) = inv .in-it j (omega arith)
+
+      go : Dec (h + 1 < 32) → h + 1 < 32
+      go (yes l) = l
+      go (no l) = absurd (bit-zero m (subst (λ (r : ℕ). Bit r m) (sinks .2) (more (sinks .0) (omega (arith, sinks .1)))))
+
+  pub last-end : (h : ℕ) → ¬ (bitAnd (getD sets (h + 1) 0 / 2 ^ m) 1 ≡ 1) → LastInv sets m h → Last sets m h
+  last-end h d inv = record { small = inv .small; in-it = inv .in-it; not-next = λ b. d (bit-test (getD sets (h + 1) 0) m ∙ b) }
+
+-- ---- the loop of `write`
+
+pub record WriteInv (sets : List ℕ) (n : ℕ) (old new : List ℕ) (m : ℕ) : Type 0 where
+  pub at-most : m ≤ n
+  pub same-length : length new ≡ length old
+  pub done : (j : ℕ) → j < m → Last sets j (getD new j 0)
+  pub rest : drop n new ≡ drop n old
+
+pub write-start : (sets : List ℕ) (n : ℕ) (old : List ℕ) → WriteInv sets n old old 0
+write-start sets n old = record { at-most = omega arith; same-length = refl; done = λ j h. absurd (omega arith); rest = refl }
+
+pub write-step : (sets : List ℕ) (n : ℕ) (old new : List ℕ) (m h : ℕ) → n ≤ length old → m < n → Last sets m h → WriteInv sets n old new m → WriteInv sets n old (set new m h) (m + 1)
+write-step sets n old new m h hn hm l inv = record {
+  at-most = omega arith;
+  same-length = length-set new m h ∙ inv .same-length;
+  done = λ j q. go j q (ℕ-discrete j m);
+  rest = drop-set-lt n new m h hm ∙ inv .rest;
+}
+  where
+    go : (j : ℕ) → j < m + 1 → Dec (j ≡ m) → Last sets j (getD (set new m h) j 0)
+    go j q (yes e) = rw (e, getD-set-same new m h 0 (omega (arith, inv .same-length))) l
+    go j q (no d) = rw (getD-set-other new m j h 0 d) (inv .done j (omega arith))
+
+pub write-end : (sets : List ℕ) (n : ℕ) (old new : List ℕ) (m : ℕ) → n ≤ m → WriteInv sets n old new m → Written sets n old new
+write-end sets n old new m h inv = record { last = λ j q. inv .done j (omega arith); rest = inv .rest }
+
+-- ---- the heights
+
+module _ (w : List ℕ) (n : ℕ) (sets : List ℕ) (r : ℕ) (levels : Levels w n sets r) where
+  pub in-first : (m : ℕ) → m < n → Bit (getD sets 0 0) m
+  in-first m h = levels .sets-are 0 (omega arith) m .1 h
+
+  pub sinks : n ≤ 32 → Sinks sets
+  sinks h = (r, omega (arith, levels .fits), levels .empty)
+
+  module _ (m h : ℕ) (hm : m < n) (l : Last sets m h) where
+    last-below : h < r
+    last-below = go (decLt h r)
+      where
+        go : Dec (h < r) → h < r
+        go (yes q) = q
+        go (no q) = absurd (bit-zero m (subst (λ (row : ℕ). Bit row m) (levels .empty) (l .in-it r (omega arith))))
+
+    last-most : (k : ℕ) → Steps (Rows n w) n k m → k ≤ h
+    last-most k s = go (decLe k h)
+      where
+        go : Dec (k ≤ h) → k ≤ h
+        go (yes q) = q
+        go (no q) = absurd (l .not-next (levels .sets-are (h + 1) (omega (arith, last-below)) m .1 (steps-less (Rows n w) n (rows-within n w) (h + 1) k m (omega arith) s)))
+
+    last-height : Height (Rows n w) m h
+    last-height =
+        let c = steps-chain (Rows n w) n (rows-within n w) h m (levels .sets-are h (omega (arith, last-below)) m .0 (l .in-it h (omega arith))) in
+        record { rest = c .0; chain = c .1; steps = c .2; longest = λ k q. last-most (length k) (chain-steps (Rows n w) n (rows-within n w) m k hm q) }
+
+pub heights-some : (w : List ℕ) (n : ℕ) (sets old new : List ℕ) (r : ℕ) → ¬ (r ≡ 0) → length new ≡ length old → Levels w n sets r → Written sets n old new → Heights w n old new r
+heights-some w n sets old new r d e levels wr = record {
+  long = e;
+  cyclic = λ z. absurd (d z);
+  kept = λ z. absurd (d z);
+  height = λ _ m h. last-height w n sets r levels m (getD new m 0) h (wr .last m h);
+  below = λ _ m h. last-below w n sets r levels m (getD new m 0) h (wr .last m h);
+  greatest = λ _. top;
+  rest = λ _. wr .rest;
+}
+  where
+    top : (m : ℕ) × (m < n) × (suc (getD new m 0) ≡ r)
+    top =
+        let t = levels .some (r - 1) (omega arith) in
+        let h = steps-small (Rows n w) n (rows-within n w) (r - 1) (t .0) (t .1) in
+        let l = wr .last (t .0) h in
+        (t .0, h, omega (arith, last-most w n sets r levels (t .0) (getD new (t .0) 0) h l (r - 1) (t .1), last-below w n sets r levels (t .0) (getD new (t .0) 0) h l))
+
+pub heights-none : (w : List ℕ) (n : ℕ) (old : List ℕ) → (a : ℕ) × Plus (Rows n w) a a → Heights w n old old 0
+heights-none w n old t = record {
+  long = refl;
+  cyclic = λ _. t;
+  kept = λ _. refl;
+  height = λ d. absurd (d refl);
+  below = λ d. absurd (d refl);
+  greatest = λ d. absurd (d refl);
+  rest = λ d. absurd (d refl);
+}
