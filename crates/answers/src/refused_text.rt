@@ -9,7 +9,7 @@ fn more_tabbed(out: &mut [u8], at: usize, n: u32) -> usize
     requires { ⌜ at + length (tabbedNumber n) ≤ length (now out) ⌝ }
     ensures { λ r. ⌜ Pasted (tabbedNumber n) at (now (out .entry)) (now (out .exit)) r ⌝ }
 {
-    let b = text::writers::more(out, at, b"\t");
+    let b = text::writers::more(out, at, &text::words::TAB);
     text::writers::more_number(out, b, n)
 }
 
@@ -18,9 +18,9 @@ pub fn put_refused(out: &mut [u8], number: u8, paper: u8, line: u32) -> usize
     requires { ⌜ length (refusedText number paper line) ≤ length (now out) ⌝ }
     ensures { λ r. ⌜ Wrote (refusedText number paper line) (now (out .entry)) (now (out .exit)) r ⌝ }
 {
-    let a = text::put(out, b"refused");
+    let a = text::put(out, &text::words::REFUSED);
     let b = more_tabbed(out, a, number as u32);
     let c = more_tabbed(out, b, paper as u32);
     let d = more_tabbed(out, c, line);
-    text::writers::more(out, d, b"\n")
+    text::writers::more(out, d, &text::words::NEWLINE)
 }

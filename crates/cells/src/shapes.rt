@@ -31,12 +31,12 @@ pub(crate) fn shape_of(line: &[u8], f: Fields) -> Shape
         return Shape::Wrong;
     };
     if n == 5 {
-        if lines::word_at(line, f, 4, b"stall") {
+        if lines::word_at(line, f, 4, &text::words::STALL) {
             return Shape::Stall(whose);
         }
         return Shape::Wrong;
     }
-    if lines::word_at(line, f, 4, b"go") {
+    if lines::word_at(line, f, 4, &text::words::GO) {
         return Shape::Go(whose);
     }
     Shape::Wrong

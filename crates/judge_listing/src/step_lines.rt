@@ -54,5 +54,5 @@ pub(crate) fn put_step(out: &mut [u8], step: Step) -> usize
     let b = text::writers::more_name(out, a, from);
     let c = more_word(out, b, step.waits);
     let d = text::writers::more_name(out, c, to);
-    text::writers::more(out, d, b"\n")
+    text::writers::more(out, d, &text::words::NEWLINE)
 }

@@ -40,13 +40,13 @@ pub fn misplaced(line: &[u8], f: Fields) -> u8
     requires { ⌜ FieldsAre (now line) f × (says (split 9 (now line)) 0 cellWord ≡ false) ⌝ }
     ensures { λ r. ⌜ Misplaced (now (line .entry)) r ⌝ }
 {
-    if crate::is_record(line, f, b"message") {
+    if crate::is_record(line, f, &text::words::MESSAGE) {
         return late(message_shaped(line, f));
     }
-    if crate::is_record(line, f, b"event") {
+    if crate::is_record(line, f, &text::words::EVENT) {
         return late(crate::shapes::event_shape(line, f));
     }
-    if crate::is_record(line, f, b"state") {
+    if crate::is_record(line, f, &text::words::STATE) {
         return late(state_shaped(line, f));
     }
     4

@@ -20,16 +20,16 @@ pub(crate) fn kind_at(line: &[u8], f: Fields, i: usize) -> FoundKind
     requires { ⌜ FieldsAre (now line) f × (i < f .count) ⌝ }
     ensures { λ r. ⌜ r ≡ foundKind (field (split 9 (now (line .entry))) i) ⌝ }
 {
-    if crate::word_at(line, f, i, b"req") {
+    if crate::word_at(line, f, i, &text::words::REQ) {
         return FoundKind::Is(Kind::Req);
     }
-    if crate::word_at(line, f, i, b"fwd") {
+    if crate::word_at(line, f, i, &text::words::FWD) {
         return FoundKind::Is(Kind::Fwd);
     }
-    if crate::word_at(line, f, i, b"data") {
+    if crate::word_at(line, f, i, &text::words::DATA) {
         return FoundKind::Is(Kind::Data);
     }
-    if crate::word_at(line, f, i, b"ctl") {
+    if crate::word_at(line, f, i, &text::words::CTL) {
         return FoundKind::Is(Kind::Ctl);
     }
     FoundKind::Nothing
@@ -52,10 +52,10 @@ pub fn controller_at(line: &[u8], f: Fields, i: usize) -> FoundController
     requires { ⌜ FieldsAre (now line) f × (i < f .count) ⌝ }
     ensures { λ r. ⌜ r ≡ foundController (field (split 9 (now (line .entry))) i) ⌝ }
 {
-    if crate::word_at(line, f, i, b"cache") {
+    if crate::word_at(line, f, i, &text::words::CACHE) {
         return FoundController::Is(Controller::Cache);
     }
-    if crate::word_at(line, f, i, b"dir") {
+    if crate::word_at(line, f, i, &text::words::DIR) {
         return FoundController::Is(Controller::Dir);
     }
     FoundController::Nothing
@@ -66,10 +66,10 @@ pub(crate) fn stability_at(line: &[u8], f: Fields, i: usize) -> FoundStability
     requires { ⌜ FieldsAre (now line) f × (i < f .count) ⌝ }
     ensures { λ r. ⌜ r ≡ foundStability (field (split 9 (now (line .entry))) i) ⌝ }
 {
-    if crate::word_at(line, f, i, b"stable") {
+    if crate::word_at(line, f, i, &text::words::STABLE) {
         return FoundStability::Is(Stability::Stable);
     }
-    if crate::word_at(line, f, i, b"transient") {
+    if crate::word_at(line, f, i, &text::words::TRANSIENT) {
         return FoundStability::Is(Stability::Transient);
     }
     FoundStability::Nothing

@@ -74,7 +74,7 @@ pub fn read_mapping(text: &[u8], messages: [MessageRow; 32], count: usize) -> Ma
     requires { ⌜ count ≤ 32 ⌝ }
     ensures { λ r. ⌜ r ≡ readMapping (take count messages) (now (text .entry)) ⌝ }
 {
-    let opening = papers::opening(b"vn-mapping\t1", text);
+    let opening = papers::opening(&text::words::MAPPING_HEADER, text);
     let number = opening.number;
     if number != 0 {
         return refuse(number, opening.line);

@@ -18,7 +18,7 @@ pub(crate) fn is_map(line: &[u8]) -> bool
     let ends = fields.to;
     let a = starts[0];
     let e = ends[0];
-    text::same(&line[a..e], b"map")
+    text::same(&line[a..e], &text::words::MAP)
 }
 
 // ---- One line of a mapping that has its shape: what it gives.

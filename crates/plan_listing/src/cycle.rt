@@ -43,7 +43,7 @@ fn put_name(out: &mut [u8], name: Name) -> usize
     requires { ⌜ length (tab ++ nameText name) ≤ length (now out) ⌝ }
     ensures { λ r. ⌜ Wrote (tab ++ nameText name) (now (out .entry)) (now (out .exit)) r ⌝ }
 {
-    let a = text::put(out, b"\t");
+    let a = text::put(out, &text::words::TAB);
     text::writers::more_name(out, a, name)
 }
 
@@ -70,9 +70,9 @@ fn put_cycle(out: &mut [u8], messages: [MessageRow; 32], cycle: [Message; 32], n
     requires { ⌜ (n ≤ 32) × MessagesBelow n (firstMessages n cycle) × (length (cycleLine messages (firstMessages n cycle)) ≤ length (now out)) ⌝ }
     ensures { λ r. ⌜ Wrote (cycleLine messages (firstMessages n cycle)) (now (out .entry)) (now (out .exit)) r ⌝ }
 {
-    let a = text::put(out, b"cycle");
+    let a = text::put(out, &text::words::CYCLE);
     let b = a + put_names(&mut out[a..], messages, cycle, n);
-    text::writers::more(out, b, b"\n")
+    text::writers::more(out, b, &text::words::NEWLINE)
 }
 
 // Class 2: the listing of a shown cycle, if there is room for it.

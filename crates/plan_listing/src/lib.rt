@@ -13,9 +13,9 @@ pub(crate) fn put_number_line(out: &mut [u8], word: &[u8], n: u32) -> usize
     ensures { λ r. ⌜ Wrote (numberLine (now (word .entry)) n) (now (out .entry)) (now (out .exit)) r ⌝ }
 {
     let a = text::put(out, word);
-    let b = text::writers::more(out, a, b"\t");
+    let b = text::writers::more(out, a, &text::words::TAB);
     let c = text::writers::more_number(out, b, n);
-    text::writers::more(out, c, b"\n")
+    text::writers::more(out, c, &text::words::NEWLINE)
 }
 
 // The header and the class.
@@ -23,7 +23,7 @@ pub(crate) fn put_head(out: &mut [u8], class: u32) -> usize
     requires { ⌜ length (classHead class) ≤ length (now out) ⌝ }
     ensures { λ r. ⌜ Wrote (classHead class) (now (out .entry)) (now (out .exit)) r ⌝ }
 {
-    let a = text::put(out, b"vn-plan\t1");
-    let b = text::writers::more(out, a, b"\n");
-    b + put_number_line(&mut out[b..], b"class", class)
+    let a = text::put(out, &text::words::PLAN_HEADER);
+    let b = text::writers::more(out, a, &text::words::NEWLINE);
+    b + put_number_line(&mut out[b..], &text::words::CLASS, class)
 }

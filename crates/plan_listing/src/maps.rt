@@ -56,12 +56,12 @@ fn put_map(out: &mut [u8], name: Name, network: Network) -> usize
     ensures { λ r. ⌜ Wrote (mapText (nameText name) (network .0)) (now (out .entry)) (now (out .exit)) r ⌝ }
 {
     let n = network.0;
-    let a = text::put(out, b"map");
-    let b = text::writers::more(out, a, b"\t");
+    let a = text::put(out, &text::words::MAP);
+    let b = text::writers::more(out, a, &text::words::TAB);
     let c = text::writers::more_name(out, b, name);
-    let d = text::writers::more(out, c, b"\t");
+    let d = text::writers::more(out, c, &text::words::TAB);
     let e = text::writers::more_number(out, d, n as u32);
-    text::writers::more(out, e, b"\n")
+    text::writers::more(out, e, &text::words::NEWLINE)
 }
 
 // A line for each message.
@@ -97,7 +97,7 @@ pub fn map_listing(
         return answers::no_room(needed);
     }
     let a = crate::put_head(out, 3);
-    let b = a + crate::put_number_line(&mut out[a..], b"networks", count as u32);
+    let b = a + crate::put_number_line(&mut out[a..], &text::words::NETWORKS, count as u32);
     let end = b + put_maps(&mut out[b..], messages, n, networks);
     answers::listed(end)
 }

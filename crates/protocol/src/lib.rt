@@ -10,7 +10,7 @@ use crate::whole::Reading;
 pub fn read_protocol(text: &[u8]) -> Reading
     ensures { λ r. ⌜ r ≡ readProtocol (now (text .entry)) ⌝ }
 {
-    let o = papers::opening(b"vn-protocol\t1", text);
+    let o = papers::opening(&text::words::PROTOCOL_HEADER, text);
     if o.number != 0 {
         return crate::whole::refused_at(o.number, o.line);
     }

@@ -26,7 +26,7 @@ pub(crate) fn read_messages(text: &[u8], from: usize, first: usize, given: Table
     let mut at = from;
     let mut line = first;
     while at < text.len() {
-        let n = lines::next::next_line(text, at, b"message");
+        let n = lines::next::next_line(text, at, &text::words::MESSAGE);
         let e = n.end;
         let f = n.fields;
         if !n.is {
@@ -58,7 +58,7 @@ fn read_events(text: &[u8], from: usize, first: usize, given: Tables) -> Reading
     let mut at = from;
     let mut line = first;
     while at < text.len() {
-        let n = lines::next::next_line(text, at, b"event");
+        let n = lines::next::next_line(text, at, &text::words::EVENT);
         let e = n.end;
         let f = n.fields;
         if !n.is {
@@ -98,7 +98,7 @@ fn read_states(text: &[u8], from: usize, first: usize, given: Tables) -> Reading
     let mut at = from;
     let mut line = first;
     while at < text.len() {
-        let n = lines::next::next_line(text, at, b"state");
+        let n = lines::next::next_line(text, at, &text::words::STATE);
         let e = n.end;
         let f = n.fields;
         if !n.is {
@@ -153,7 +153,7 @@ fn read_cells(text: &[u8], from: usize, first: usize, given: Tables) -> Reading
     let mut at = from;
     let mut line = first;
     while at < text.len() {
-        let n = lines::next::next_line(text, at, b"cell");
+        let n = lines::next::next_line(text, at, &text::words::CELL);
         let e = n.end;
         let f = n.fields;
         let part = &text[at..e];

@@ -2,6 +2,7 @@
 // the functions that meet them are in crates above.
 pub mod line_fields;
 pub mod names;
+pub mod words;
 pub mod writers;
 
 ghost use mathlib.Core.Path.{_≡_};
