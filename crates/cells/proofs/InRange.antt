@@ -21,9 +21,10 @@ use Rattle.tables.specs.declared.Cell.{Cell}
 use Rattle.tables.specs.declared.Tables.{Tables}
 use Rattle.tables.specs.Cells.{number, TriggerOk, OutcomeOk, CellOk, sentOf as numbersOf}
 use Rattle.tables.specs.names.Names.{messageAt, eventAt, stateAt, isMessage, isEvent, isState}
-use Rattle.lines.specs.Line.{Line, field, says, cell, cellController, messageNo, triggerOf, outcomeOf, sentFields, sentOf, cellOf}
+use Rattle.text.specs.Line.{Line, field, says}
+use Rattle.lines.specs.Line.{cell, cellController, messageNo, triggerOf, outcomeOf, sentFields, sentOf, cellOf}
 use Rattle.lines.specs.Checks.{shaped, isTrigger, isCache, allMessages, knownCell, stallInStable, conflict}
-use Rattle.lines.proofs.Numbers.{lineNumber, refuses, refuses-one}
+use Rattle.lines.proofs.Numbers.{tells-number, numbered, lineNumber, refuses}
 use Rattle.lines.proofs.Sections.{a-cell}
 use Rattle.lines.proofs.Both.{and-left, and-right}
 use Rattle.cells.specs.declared.CellLine.{CellLine}
@@ -129,15 +130,15 @@ cell-of-ok t f e =
       sent = λ b m. sent-below t (sentFields f) (s .1) b (subst (λ (l : List ℕ). b ∈ l) (stored t f) m);
     }
 
-pub cell-ok : (line : List ℕ)
+pub cell-ok : (k : ℕ) (line : List ℕ)
     (messages : List MessageRow) (message-count : ℕ) (events : List EventRow) (event-count : ℕ) (states : List StateRow) (state-count : ℕ)
     (cells : List Cell) (count : ℕ) (r : CellLine)
-    → says (split 9 line) 0 cellWord ≡ true → CellTold line messages message-count events event-count states state-count cells count r → r .number ≡ 0
+    → says (split 9 line) 0 cellWord ≡ true → CellTold k line messages message-count events event-count states state-count cells count r → r .refusal .number ≡ 0
     → CellOk message-count event-count state-count (r .cell)
-cell-ok line messages message-count events event-count states state-count cells count r first c z =
+cell-ok k line messages message-count events event-count states state-count cells count r first c z =
     let t = given messages message-count events event-count states state-count cells count in
     let d = given-declared messages message-count events event-count states state-count cells count in
     let f = split 9 line in
-    let n : lineNumber cell t f ≡ r .number =
-    refuses-one t line (lineNumber cell t f) (r .number) (refuses line t cell (lineNumber cell t f) (a-cell f first) refl) (c .told t d refl refl) in
+    let n : lineNumber cell t f ≡ r .refusal .number =
+    sym (tells-number (lineNumber cell t f) k) ∙ numbered (sym (refuses line t cell (lineNumber cell t f) k (a-cell f first) refl) ∙ c .told t d refl refl) in
     subst (λ (x : Cell). CellOk message-count event-count state-count x) (sym (c .cell t d z)) (cell-of-ok t f (n ∙ z))

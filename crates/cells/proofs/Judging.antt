@@ -1,7 +1,7 @@
 -- How a cell's line is refused: by its shape, or by what is read of it.
 use Prim.Native.Nat.{ℕ, _≤_, _<_}
 use mathlib.Core.Path.{_≡_, refl, sym, ap, ap₂, _∙_}
-use mathlib.Core.Bool.{Bool, true, false, not, cond}
+use mathlib.Core.Bool.{Bool, true, false, not}
 use mathlib.Core.List.{List}
 use native.Mathlib.Omega.{arith}
 use lib.ListN.{take}
@@ -9,6 +9,8 @@ use lib.Dec.{leb}
 use borrow.Author.Tests.{le-leb, lt-leb}
 use Rattle.text.specs.Parts.{split}
 use Rattle.text.specs.Words.{cellWord}
+use Rattle.papers.specs.declared.Refusal.{Refusal}
+use Rattle.papers.specs.Checks.{refusal, none, firstOf}
 use Rattle.tables.specs.declared.MessageRow.{MessageRow}
 use Rattle.tables.specs.declared.EventRow.{EventRow}
 use Rattle.tables.specs.declared.StateRow.{StateRow}
@@ -16,61 +18,19 @@ use Rattle.tables.specs.declared.Cell.{Cell}
 use Rattle.tables.specs.declared.Tables.{Tables}
 use Rattle.tables.specs.Tables.{noCell}
 use Rattle.tables.specs.Clash.{anyClash}
-use Rattle.lines.specs.Line.{Line, says, cell}
-use Rattle.lines.specs.Checks.{shaped, knownCell, stallInStable, conflict}
-use Rattle.lines.proofs.Numbers.{eightOf, lineNumber, refuses}
+use Rattle.text.specs.Line.{Line, says}
+use Rattle.lines.specs.Line.{cell}
+use Rattle.lines.specs.Checks.{shaped, knownCell, stallInStable, conflict, sectionChecks}
+use Rattle.lines.proofs.Numbers.{tells, eightOf, lineNumber, section-told, in-section, refuses}
 use Rattle.lines.proofs.Sections.{a-cell}
-use Rattle.cells.specs.declared.readings.Reading.{Reading}
+use Rattle.cells.specs.declared.readings.CellReading.{CellReading}
 use Rattle.cells.specs.declared.CellLine.{CellLine}
 use Rattle.cells.specs.declared.shapes.Shape.the-variants.{Wrong}
 use Rattle.cells.specs.shapes.Shape.{shapeOf}
 use Rattle.cells.specs.readings.Known.{CellRead}
 use Rattle.tables.specs.Given.{Declared}
-use Rattle.cells.specs.Told.{CellTold, refusedLine, judgedNumber, Judged}
+use Rattle.cells.specs.Told.{CellTold, refusedLine, ReadAs, CellJudged}
 use Rattle.cells.proofs.shapes.Shapes.{wrong-shape}
-
--- ---- what is read of the line
-
-module _ (at : Reading) (cells : List Cell) (count : ℕ) where
-  -- the number by its tests
-  by : {a b c d : Bool} → at .known ≡ a → leb 512 count ≡ b → at .stuck ≡ c → anyClash (at .cell) (take count cells) ≡ d
-      → judgedNumber at cells count ≡ cond a (cond b 9 (cond c 10 (cond d 11 0))) 7
-  by p q r s = cc
-
-  refuse : (n : ℕ) (l : CellLine) → (n ≡ 0 → ⊥) → l ≡ refusedLine n → judgedNumber at cells count ≡ n → Judged at cells count l
-  refuse n l h e q =
-      let z : l .number ≡ n = ap (λ (x : CellLine). x .number) e in
-      record { number = z ∙ sym q; cell = λ k. absurd (h (sym z ∙ k)); cleared = λ k. ap (λ (x : CellLine). x .cell) e }
-
-  pub not-known : (l : CellLine) → at .known ≡ false → l ≡ refusedLine 7 → Judged at cells count l
-  not-known l k e = refuse 7 l (λ z. omega arith) e (by {b = leb 512 count} {c = at .stuck} {d = anyClash (at .cell) (take count cells)} k refl refl refl)
-
-  module _ (k : at .known ≡ true) where
-    pub too-many : (l : CellLine) → 512 ≤ count → l ≡ refusedLine 9 → Judged at cells count l
-    too-many l h e =
-        refuse 9 l (λ z. omega arith) e (by {c = at .stuck} {d = anyClash (at .cell) (take count cells)} k (le-leb 512 count h) refl refl)
-
-    module _ (h : count < 512) where
-      pub stuck-there : (l : CellLine) → at .stuck ≡ true → l ≡ refusedLine 10 → Judged at cells count l
-      stuck-there l s e =
-          refuse 10 l (λ z. omega arith) e (by {d = anyClash (at .cell) (take count cells)} k (lt-leb 512 count h) s refl)
-
-      module _ (s : at .stuck ≡ false) where
-        pub clashing : (l : CellLine) → anyClash (at .cell) (take count cells) ≡ true → l ≡ refusedLine 11 → Judged at cells count l
-        clashing l a e = refuse 11 l (λ z. omega arith) e (by k (lt-leb 512 count h) s a)
-
-        pub accepted : (l : CellLine) → anyClash (at .cell) (take count cells) ≡ false → l .number ≡ 0 → l .cell ≡ at .cell → Judged at cells count l
-        accepted l a n e =
-            record { number = n ∙ sym (by k (lt-leb 512 count h) s a); cell = λ z. e; cleared = λ z. absurd (z n) }
-
-  -- a line that is not refused was read
-  pub was-known : judgedNumber at cells count ≡ 0 → at .known ≡ true
-  was-known e = go (at .known) refl
-    where
-      go : (b : Bool) → at .known ≡ b → at .known ≡ true
-      go true k = k
-      go false k =
-          absurd (omega (arith, sym (by {b = leb 512 count} {c = at .stuck} {d = anyClash (at .cell) (take count cells)} k refl refl refl) ∙ e))
 
 -- ---- the line's number
 
@@ -83,54 +43,93 @@ pub in-order : (t : Tables) (f : Line) (a b c d e : Bool) → shaped cell f ≡ 
 unfolding lineNumber
 in-order t f a b c d e p q r s u = same-eight p q r s u
 
-module _ (line : List ℕ)
+-- ---- what is read of the line
+
+-- the refusal and the cell of a line
+why : {l m : CellLine} → l ≡ m → l .refusal ≡ m .refusal
+why e = ap (λ (x : CellLine). x .refusal) e
+
+whyNumber : {l m : CellLine} → l ≡ m → l .refusal .number ≡ m .refusal .number
+whyNumber e = ap (λ (x : CellLine). x .refusal .number) e
+
+module _ (at : CellReading) (k : ℕ) (cells : List Cell) (count : ℕ) where
+  abbrev Given : Refusal → Type 0
+  Given r = (t : Tables) (f : Line) → ReadAs t f at → t .cells ≡ cells → t .«cell_count» ≡ count → firstOf (sectionChecks cell t k f) ≡ r
+
+  refuse : (n : ℕ) (l : CellLine) → (n ≡ 0 → ⊥) → l ≡ refusedLine n k → Given (refusal n k) → CellJudged at k cells count l
+  refuse n l h e g =
+      record {
+        told = λ t f a p q. g t f a p q ∙ sym (why e);
+        known = λ z. absurd (h (sym (whyNumber e) ∙ z));
+        cell = λ z. absurd (h (sym (whyNumber e) ∙ z));
+        cleared = λ z. ap (λ (x : CellLine). x .cell) e;
+      }
+
+  pub not-known : (l : CellLine) → at .known ≡ false → l ≡ refusedLine 7 k → CellJudged at k cells count l
+  not-known l h e =
+      refuse 7 l (λ z. omega arith) e
+      (λ t f a p q. section-told cell t k f
+      ∙ ap (λ (n : ℕ). tells n k) (in-order t f true false (leb 512 (t .«cell_count»)) (stallInStable cell t f) (conflict cell t f) (a .shape) (sym (a .known) ∙ h) refl refl refl))
+
+  module _ (h : at .known ≡ true) where
+    -- the tests of a line all of whose names are known
+    by : (b c d : Bool) → leb 512 count ≡ b → at .stuck ≡ c → anyClash (at .cell) (take count cells) ≡ d → Given (tells (eightOf false false false false false b c d) k)
+    by b c d u v w t f a p q =
+        section-told cell t k f
+        ∙ ap (λ (n : ℕ). tells n k)
+        (in-order t f true true b c d (a .shape) (sym (a .known) ∙ h) (ap (leb 512) q ∙ u) (sym (a .stuck h) ∙ v)
+        (ap₂ anyClash (sym (a .cell h)) (ap₂ (λ (n : ℕ) (l : List Cell). take n l) q p) ∙ w))
+
+    pub too-many : (l : CellLine) → 512 ≤ count → l ≡ refusedLine 9 k → CellJudged at k cells count l
+    too-many l g e = refuse 9 l (λ z. omega arith) e (by true (at .stuck) (anyClash (at .cell) (take count cells)) (le-leb 512 count g) refl refl)
+
+    module _ (g : count < 512) where
+      pub stuck-there : (l : CellLine) → at .stuck ≡ true → l ≡ refusedLine 10 k → CellJudged at k cells count l
+      stuck-there l s e = refuse 10 l (λ z. omega arith) e (by false true (anyClash (at .cell) (take count cells)) (lt-leb 512 count g) s refl)
+
+      module _ (s : at .stuck ≡ false) where
+        pub clashing : (l : CellLine) → anyClash (at .cell) (take count cells) ≡ true → l ≡ refusedLine 11 k → CellJudged at k cells count l
+        clashing l a e = refuse 11 l (λ z. omega arith) e (by false false true (lt-leb 512 count g) s a)
+
+        pub accepted : (l : CellLine) → anyClash (at .cell) (take count cells) ≡ false → l .refusal ≡ none → l .cell ≡ at .cell → CellJudged at k cells count l
+        accepted l a n e =
+            record {
+              told = λ t f r p q. by false false false (lt-leb 512 count g) s a t f r p q ∙ sym n;
+              known = λ z. h;
+              cell = λ z. e;
+              cleared = λ z. absurd (z (ap (λ (x : Refusal). x .number) n));
+            }
+
+-- ---- the line
+
+module _ (k : ℕ) (line : List ℕ)
     (messages : List MessageRow) (message-count : ℕ) (events : List EventRow) (event-count : ℕ) (states : List StateRow) (state-count : ℕ)
     (cells : List Cell) (count : ℕ)
     (first : says (split 9 line) 0 cellWord ≡ true) where
   -- a line of another shape
-  pub misshapen : (l : CellLine) → Wrong ≡ shapeOf (split 9 line) → l ≡ refusedLine 4
-      → CellTold line messages message-count events event-count states state-count cells count l
+  pub misshapen : (l : CellLine) → Wrong ≡ shapeOf (split 9 line) → l ≡ refusedLine 4 k
+      → CellTold k line messages message-count events event-count states state-count cells count l
   misshapen l w e =
       record {
         told = λ t d p q.
-            refuses line t cell (l .number) (a-cell (split 9 line) first)
-            (in-order t (split 9 line) false (knownCell t (split 9 line)) (leb 512 (t .«cell_count»)) (stallInStable cell t (split 9 line)) (conflict cell t (split 9 line)) (wrong-shape (split 9 line) w) refl refl refl refl
-            ∙ sym number);
-        cell = λ t d z. absurd (omega (arith, number));
+            refuses line t cell 4 k (a-cell (split 9 line) first)
+            (in-order t (split 9 line) false (knownCell t (split 9 line)) (leb 512 (t .«cell_count»)) (stallInStable cell t (split 9 line)) (conflict cell t (split 9 line)) (wrong-shape (split 9 line) w) refl refl refl refl)
+            ∙ sym (why e);
+        cell = λ t d z. absurd (omega (arith, whyNumber e));
         cleared = λ z. ap (λ (x : CellLine). x .cell) e;
       }
-    where
-      number : l .number ≡ 4
-      number = ap (λ (x : CellLine). x .number) e
 
-  module _ (at : Reading) (read : CellRead (split 9 line) messages message-count events event-count states state-count at) (shape : shaped cell (split 9 line) ≡ true) where
-    numbered : (t : Tables) → Declared t messages message-count events event-count states state-count → t .cells ≡ cells → t .«cell_count» ≡ count
-        → lineNumber cell t (split 9 line) ≡ judgedNumber at cells count
-    numbered t d p q = go (at .known) refl
-      where
-        f : Line
-        f = split 9 line
-
-        room : leb 512 (t .«cell_count») ≡ leb 512 count
-        room = ap (leb 512) q
-
-        go : (b : Bool) → at .known ≡ b → lineNumber cell t (split 9 line) ≡ judgedNumber at cells count
-        go false k =
-            in-order t f true false (leb 512 (t .«cell_count»)) (stallInStable cell t f) (conflict cell t f) shape (sym (read .known t d) ∙ k) refl refl refl
-            ∙ sym (by at cells count {b = leb 512 count} {c = at .stuck} {d = anyClash (at .cell) (take count cells)} k refl refl refl)
-        go true k =
-            in-order t f true true (leb 512 count) (at .stuck) (anyClash (at .cell) (take count cells)) shape (sym (read .known t d) ∙ k) room (sym (read .stuck t d k))
-            (ap₂ anyClash (sym (read .cell t d k)) (ap₂ (λ (n : ℕ) (l : List Cell). take n l) q p))
-            ∙ sym (by at cells count {b = leb 512 count} {c = at .stuck} {d = anyClash (at .cell) (take count cells)} k refl refl refl)
-
-    pub judged-told : (l : CellLine) → Judged at cells count l → CellTold line messages message-count events event-count states state-count cells count l
-    judged-told l j =
-        record {
-          told = λ t d p q. refuses line t cell (l .number) (a-cell (split 9 line) first) (numbered t d p q ∙ sym (j .number));
-          cell = λ t d z. j .cell z ∙ read .cell t d (was-known at cells count (sym (j .number) ∙ z));
-          cleared = j .cleared;
-        }
+  pub judged-told : (at : CellReading) → CellRead (split 9 line) messages message-count events event-count states state-count at → shaped cell (split 9 line) ≡ true
+      → (l : CellLine) → CellJudged at k cells count l → CellTold k line messages message-count events event-count states state-count cells count l
+  judged-told at read shape l j =
+      record {
+        told = λ t d p q.
+            in-section t k (split 9 line) cell (a-cell (split 9 line) first)
+            ∙ j .told t (split 9 line) (record { shape = shape; known = read .known t d; stuck = read .stuck t d; cell = read .cell t d }) p q;
+        cell = λ t d z. j .cell z ∙ read .cell t d (j .known z);
+        cleared = j .cleared;
+      }
 
 -- a refused line, of the cell that tables are cleared to
-pub refused-is : (n : ℕ) (x : Cell) → x ≡ noCell → _≡_ {A = CellLine} (record { number = n; cell = x }) (refusedLine n)
-refused-is n x e = cc
+pub refused-is : (n k : ℕ) (x : Cell) → x ≡ noCell → _≡_ {A = CellLine} (record { refusal = refusal n k; cell = x }) (refusedLine n k)
+refused-is n k x e = cc

@@ -9,54 +9,58 @@ ghost use mathlib.Core.Bool.{true};
 ghost use Prim.Native.Nat.{_≤_};
 ghost use Rattle.text.specs.Parts.{split};
 ghost use Rattle.text.specs.Words.{cellWord};
-ghost use Rattle.lines.specs.Line.{says};
+ghost use Rattle.text.specs.Line.{says};
 ghost use Rattle.lines.specs.Told.{FieldsAre};
-ghost use Rattle.cells.specs.Told.{CellTold, refusedLine, Judged};
-use crate::readings::Reading;
+ghost use Rattle.cells.specs.Told.{CellTold, refusedLine, CellJudged};
+use crate::readings::CellReading;
 use crate::shapes::Shape;
+use papers::Refusal;
 use tables::Cell;
 use tables::EventRow;
 use tables::MessageRow;
 use tables::StateRow;
 use text::Fields;
 
-// The number of the refusal, 0 where there is none, and then the cell.
+// How the line is refused, and the cell where it is not.
 pub struct CellLine {
-    pub number: u8,
+    pub refusal: Refusal,
     pub cell: Cell,
 }
 
-// A refused line answers the cleared cell.
-fn refused(number: u8) -> CellLine
-    ensures { λ r. ⌜ r ≡ refusedLine number ⌝ }
+// The nth line, which is refused, answers the cleared cell.
+fn refused(number: u8, nth: usize) -> CellLine
+    ensures { λ r. ⌜ r ≡ refusedLine number nth ⌝ }
 {
     let cell = tables::no_cell();
     CellLine {
-        number: number,
+        refusal: Refusal {
+            number: number,
+            line: nth,
+        },
         cell: cell,
     }
 }
 
-// The refusals 7 to 11, the smallest number first.
-fn judged(at: Reading, cells: [Cell; 512], count: usize) -> CellLine
+// The refusals 7 to 11 of the nth line, the smallest number first.
+fn judged(at: CellReading, nth: usize, cells: [Cell; 512], count: usize) -> CellLine
     requires { ⌜ count ≤ 512 ⌝ }
-    ensures { λ r. ⌜ Judged at cells count r ⌝ }
+    ensures { λ r. ⌜ CellJudged at nth cells count r ⌝ }
 {
     if !at.known {
-        return refused(7);
+        return refused(papers::UNKNOWN, nth);
     }
     if 512 <= count {
-        return refused(9);
+        return refused(papers::FULL, nth);
     }
     if at.stuck {
-        return refused(10);
+        return refused(papers::STALL_STABLE, nth);
     }
     let cell = at.cell;
     if tables::conflicts::any_clash(cells, count, cell) {
-        return refused(11);
+        return refused(papers::CONFLICT, nth);
     }
     CellLine {
-        number: 0,
+        refusal: Refusal { number: 0, line: 0 },
         cell: cell,
     }
 }
@@ -65,6 +69,7 @@ fn judged(at: Reading, cells: [Cell; 512], count: usize) -> CellLine
 pub fn cell_line(
     line: &[u8],
     f: Fields,
+    nth: usize,
     messages: [MessageRow; 32],
     message_count: usize,
     events: [EventRow; 8],
@@ -75,11 +80,11 @@ pub fn cell_line(
     count: usize,
 ) -> CellLine
     requires { ⌜ FieldsAre (now line) f × (says (split 9 (now line)) 0 cellWord ≡ true) × («message_count» ≤ 32) × («event_count» ≤ 8) × («state_count» ≤ 64) × (count ≤ 512) ⌝ }
-    ensures { λ r. ⌜ CellTold (now (line .entry)) messages «message_count» events «event_count» states «state_count» cells count r ⌝ }
+    ensures { λ r. ⌜ CellTold nth (now (line .entry)) messages «message_count» events «event_count» states «state_count» cells count r ⌝ }
 {
     let shape = crate::shapes::shape_of(line, f);
     match shape {
-        Shape::Wrong => refused(4),
+        Shape::Wrong => refused(papers::SHAPE, nth),
         Shape::Stall(whose) => {
             let at = crate::readings::stall_of(
                 line,
@@ -92,7 +97,7 @@ pub fn cell_line(
                 states,
                 state_count,
             );
-            judged(at, cells, count)
+            judged(at, nth, cells, count)
         }
         Shape::Go(whose) => {
             let at = crate::readings::go_of(
@@ -106,7 +111,7 @@ pub fn cell_line(
                 states,
                 state_count,
             );
-            judged(at, cells, count)
+            judged(at, nth, cells, count)
         }
     }
 }

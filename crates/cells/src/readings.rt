@@ -20,18 +20,18 @@ use tables::StateRow;
 use text::Fields;
 
 // A cell as it is read, where all that it names is known; it is stuck where it stalls in a stable state.
-pub struct Reading {
+pub struct CellReading {
     pub known: bool,
     pub stuck: bool,
     pub cell: Cell,
 }
 
 // A line whose fields name something that is not known.
-fn unread() -> Reading
+fn unread() -> CellReading
     ensures { λ r. ⌜ r ≡ noReading ⌝ }
 {
     let cell = tables::no_cell();
-    Reading {
+    CellReading {
         known: false,
         stuck: false,
         cell: cell,
@@ -65,7 +65,7 @@ pub(crate) fn stall_of(
     event_count: usize,
     states: [StateRow; 64],
     state_count: usize,
-) -> Reading
+) -> CellReading
     requires { ⌜ FieldsAre (now line) f × Stalls (split 9 (now line)) whose × («message_count» ≤ 32) × («event_count» ≤ 8) × («state_count» ≤ 64) ⌝ }
     ensures { λ r. ⌜ CellRead (split 9 (now (line .entry))) messages «message_count» events «event_count» states «state_count» r ⌝ }
 {
@@ -92,7 +92,7 @@ pub(crate) fn stall_of(
         sent: [Message(0); 8],
         sent_count: 0,
     };
-    Reading {
+    CellReading {
         known: true,
         stuck: in_stable(states, state_count, state),
         cell: cell,
@@ -112,7 +112,7 @@ pub(crate) fn go_of(
     event_count: usize,
     states: [StateRow; 64],
     state_count: usize,
-) -> Reading
+) -> CellReading
     requires { ⌜ FieldsAre (now line) f × Goes (split 9 (now line)) whose × («message_count» ≤ 32) × («event_count» ≤ 8) × («state_count» ≤ 64) ⌝ }
     ensures { λ r. ⌜ CellRead (split 9 (now (line .entry))) messages «message_count» events «event_count» states «state_count» r ⌝ }
 {
@@ -153,7 +153,7 @@ pub(crate) fn go_of(
         sent: sent,
         sent_count: to.count,
     };
-    Reading {
+    CellReading {
         known: true,
         stuck: false,
         cell: cell,

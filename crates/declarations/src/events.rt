@@ -5,29 +5,34 @@ ghost use Prim.Native.Nat.{_<_, _≤_};
 ghost use Rattle.text.specs.Parts.{split};
 ghost use Rattle.text.specs.Words.{eventWord};
 ghost use Rattle.tables.specs.Tables.{noEvent};
-ghost use Rattle.lines.specs.Line.{field, says};
+ghost use Rattle.papers.specs.Checks.{refusal};
+ghost use Rattle.text.specs.Line.{field, says};
 ghost use Rattle.lines.specs.Told.{FieldsAre};
 ghost use Rattle.declarations.specs.events.Told.{EventTold};
 ghost use Rattle.declarations.specs.events.Known.{eventDeclared};
+use papers::Refusal;
 use tables::EventRow;
 use tables::MessageRow;
 use tables::names::FoundEvent;
 use text::Fields;
 
-// The number of the refusal, 0 where there is none, and then the event.
+// How the line is refused, and the event where it is not.
 pub struct EventLine {
-    pub number: u8,
+    pub refusal: Refusal,
     pub row: EventRow,
 }
 
-// An event's line that is refused.
-fn no_event(number: u8) -> EventLine
-    ensures { λ r. ⌜ (r .number ≡ number) × (r .row ≡ noEvent) ⌝ }
+// The nth line, which is refused, declares no event.
+fn no_event(number: u8, nth: usize) -> EventLine
+    ensures { λ r. ⌜ (r .refusal ≡ refusal number nth) × (r .row ≡ noEvent) ⌝ }
 {
     let name = text::names::no_name();
     let row = EventRow { name: name };
     EventLine {
-        number: number,
+        refusal: Refusal {
+            number: number,
+            line: nth,
+        },
         row: row,
     }
 }
@@ -48,33 +53,34 @@ fn event_declared(line: &[u8], f: Fields, i: usize, events: [EventRow; 8], count
 pub fn event_line(
     line: &[u8],
     f: Fields,
+    nth: usize,
     messages: [MessageRow; 32],
     message_count: usize,
     events: [EventRow; 8],
     count: usize,
 ) -> EventLine
     requires { ⌜ FieldsAre (now line) f × (says (split 9 (now line)) 0 eventWord ≡ true) × («message_count» ≤ 32) × (count ≤ 8) ⌝ }
-    ensures { λ r. ⌜ EventTold (now (line .entry)) messages «message_count» events count r ⌝ }
+    ensures { λ r. ⌜ EventTold nth (now (line .entry)) messages «message_count» events count r ⌝ }
 {
     if !lines::shapes::event_shape(line, f) {
-        return no_event(4);
+        return no_event(papers::SHAPE, nth);
     }
     if !crate::named_fields::name_fits(line, f, 1) {
-        return no_event(6);
+        return no_event(papers::NAME, nth);
     }
     if crate::named_fields::message_declared(line, f, 1, messages, message_count) {
-        return no_event(8);
+        return no_event(papers::TWICE, nth);
     }
     if event_declared(line, f, 1, events, count) {
-        return no_event(8);
+        return no_event(papers::TWICE, nth);
     }
     if 8 <= count {
-        return no_event(9);
+        return no_event(papers::FULL, nth);
     }
     let name = crate::named_fields::name_at(line, f, 1);
     let row = EventRow { name: name };
     EventLine {
-        number: 0,
+        refusal: Refusal { number: 0, line: 0 },
         row: row,
     }
 }

@@ -5,23 +5,25 @@ ghost use Prim.Native.Nat.{_≤_};
 ghost use Rattle.text.specs.Parts.{split};
 ghost use Rattle.text.specs.Words.{messageWord};
 ghost use Rattle.tables.specs.Tables.{noMessage};
-ghost use Rattle.lines.specs.Line.{says};
+ghost use Rattle.papers.specs.Checks.{refusal};
+ghost use Rattle.text.specs.Line.{says};
 ghost use Rattle.lines.specs.Told.{FieldsAre};
 ghost use Rattle.declarations.specs.messages.Told.{MessageTold};
 use lines::words::FoundKind;
+use papers::Refusal;
 use tables::Kind;
 use tables::MessageRow;
 use text::Fields;
 
-// The number of the refusal, 0 where there is none, and then the message.
+// How the line is refused, and the message where it is not.
 pub struct MessageLine {
-    pub number: u8,
+    pub refusal: Refusal,
     pub row: MessageRow,
 }
 
-// A message's line that is refused.
-fn no_message(number: u8) -> MessageLine
-    ensures { λ r. ⌜ (r .number ≡ number) × (r .row ≡ noMessage) ⌝ }
+// The nth line, which is refused, declares no message.
+fn no_message(number: u8, nth: usize) -> MessageLine
+    ensures { λ r. ⌜ (r .refusal ≡ refusal number nth) × (r .row ≡ noMessage) ⌝ }
 {
     let name = text::names::no_name();
     let row = MessageRow {
@@ -29,27 +31,36 @@ fn no_message(number: u8) -> MessageLine
         kind: Kind::Req,
     };
     MessageLine {
-        number: number,
+        refusal: Refusal {
+            number: number,
+            line: nth,
+        },
         row: row,
     }
 }
 
 // A message's line, while only messages were read.
-pub fn message_line(line: &[u8], f: Fields, messages: [MessageRow; 32], count: usize) -> MessageLine
+pub fn message_line(
+    line: &[u8],
+    f: Fields,
+    nth: usize,
+    messages: [MessageRow; 32],
+    count: usize,
+) -> MessageLine
     requires { ⌜ FieldsAre (now line) f × (says (split 9 (now line)) 0 messageWord ≡ true) × (count ≤ 32) ⌝ }
-    ensures { λ r. ⌜ MessageTold (now (line .entry)) messages count r ⌝ }
+    ensures { λ r. ⌜ MessageTold nth (now (line .entry)) messages count r ⌝ }
 {
     let FoundKind::Is(kind) = lines::shapes::message_shape(line, f) else {
-        return no_message(4);
+        return no_message(papers::SHAPE, nth);
     };
     if !crate::named_fields::name_fits(line, f, 1) {
-        return no_message(6);
+        return no_message(papers::NAME, nth);
     }
     if crate::named_fields::message_declared(line, f, 1, messages, count) {
-        return no_message(8);
+        return no_message(papers::TWICE, nth);
     }
     if 32 <= count {
-        return no_message(9);
+        return no_message(papers::FULL, nth);
     }
     let name = crate::named_fields::name_at(line, f, 1);
     let row = MessageRow {
@@ -57,7 +68,7 @@ pub fn message_line(line: &[u8], f: Fields, messages: [MessageRow; 32], count: u
         kind: kind,
     };
     MessageLine {
-        number: 0,
+        refusal: Refusal { number: 0, line: 0 },
         row: row,
     }
 }

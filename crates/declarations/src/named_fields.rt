@@ -4,7 +4,7 @@ ghost use mathlib.Core.Bool.{true};
 ghost use Prim.Native.Nat.{_<_, _≤_};
 ghost use Rattle.text.specs.Parts.{split};
 ghost use Rattle.text.specs.Name.{nameRule, nameOf};
-ghost use Rattle.lines.specs.Line.{field};
+ghost use Rattle.text.specs.Line.{field};
 ghost use Rattle.lines.specs.Told.{FieldsAre};
 use text::Fields;
 use text::Name;

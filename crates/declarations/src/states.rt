@@ -5,26 +5,28 @@ ghost use Prim.Native.Nat.{_<_, _≤_};
 ghost use Rattle.text.specs.Parts.{split};
 ghost use Rattle.text.specs.Words.{stateWord};
 ghost use Rattle.tables.specs.Tables.{noState};
-ghost use Rattle.lines.specs.Line.{field, says};
+ghost use Rattle.papers.specs.Checks.{refusal};
+ghost use Rattle.text.specs.Line.{field, says};
 ghost use Rattle.lines.specs.Told.{FieldsAre};
 ghost use Rattle.declarations.specs.states.Told.{StateTold};
 ghost use Rattle.declarations.specs.states.Known.{stateDeclared};
 use lines::shapes::StateWords;
+use papers::Refusal;
 use tables::Controller;
 use tables::Stability;
 use tables::StateRow;
 use tables::names::FoundState;
 use text::Fields;
 
-// The number of the refusal, 0 where there is none, and then the state.
+// How the line is refused, and the state where it is not.
 pub struct StateLine {
-    pub number: u8,
+    pub refusal: Refusal,
     pub row: StateRow,
 }
 
-// A state's line that is refused.
-fn no_state(number: u8) -> StateLine
-    ensures { λ r. ⌜ (r .number ≡ number) × (r .row ≡ noState) ⌝ }
+// The nth line, which is refused, declares no state.
+fn no_state(number: u8, nth: usize) -> StateLine
+    ensures { λ r. ⌜ (r .refusal ≡ refusal number nth) × (r .row ≡ noState) ⌝ }
 {
     let name = text::names::no_name();
     let row = StateRow {
@@ -33,7 +35,10 @@ fn no_state(number: u8) -> StateLine
         stability: Stability::Stable,
     };
     StateLine {
-        number: number,
+        refusal: Refusal {
+            number: number,
+            line: nth,
+        },
         row: row,
     }
 }
@@ -58,21 +63,27 @@ fn state_declared(
 }
 
 // A state's line, while no cell was read.
-pub fn state_line(line: &[u8], f: Fields, states: [StateRow; 64], count: usize) -> StateLine
+pub fn state_line(
+    line: &[u8],
+    f: Fields,
+    nth: usize,
+    states: [StateRow; 64],
+    count: usize,
+) -> StateLine
     requires { ⌜ FieldsAre (now line) f × (says (split 9 (now line)) 0 stateWord ≡ true) × (count ≤ 64) ⌝ }
-    ensures { λ r. ⌜ StateTold (now (line .entry)) states count r ⌝ }
+    ensures { λ r. ⌜ StateTold nth (now (line .entry)) states count r ⌝ }
 {
     let StateWords::Are(controller, stability) = lines::shapes::state_shape(line, f) else {
-        return no_state(4);
+        return no_state(papers::SHAPE, nth);
     };
     if !crate::named_fields::name_fits(line, f, 2) {
-        return no_state(6);
+        return no_state(papers::NAME, nth);
     }
     if state_declared(line, f, 2, controller, states, count) {
-        return no_state(8);
+        return no_state(papers::TWICE, nth);
     }
     if 64 <= count {
-        return no_state(9);
+        return no_state(papers::FULL, nth);
     }
     let name = crate::named_fields::name_at(line, f, 2);
     let row = StateRow {
@@ -81,7 +92,7 @@ pub fn state_line(line: &[u8], f: Fields, states: [StateRow; 64], count: usize) 
         stability: stability,
     };
     StateLine {
-        number: 0,
+        refusal: Refusal { number: 0, line: 0 },
         row: row,
     }
 }

@@ -11,7 +11,7 @@ use Rattle.text.specs.declared.Fields.{Fields}
 use Rattle.text.specs.Parts.{part, split}
 use Rattle.text.specs.Fields.{fieldsOf, lineFields}
 use Rattle.text.proofs.FieldLaws.{FieldAt, field-at, count-few, count-full, count-le, count-some}
-use Rattle.lines.specs.Line.{field}
+use Rattle.text.specs.Line.{field}
 use Rattle.lines.specs.Told.{FieldsAre}
 
 -- the whole line as a part of itself

@@ -2,6 +2,5 @@ pub mod Both
 pub mod Fields
 pub mod Numbers
 pub mod Sections
-pub mod Found
 pub mod Under
 pub mod Determined

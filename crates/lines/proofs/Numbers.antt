@@ -8,24 +8,33 @@ use lib.Dec.{eqb}
 use borrow.Author.Tests.{ne-eqb, eqb-true}
 use Rattle.text.specs.Parts.{split}
 use Rattle.papers.specs.declared.Refusal.{Refusal}
-use Rattle.papers.specs.Checks.{Check, refusal, none, pickRefusal, firstOf}
+use Rattle.papers.specs.Checks.{Check, refusal, none, firstOf}
 use Rattle.papers.proofs.Checks.{first-given, first-passed}
 use Rattle.tables.specs.declared.Tables.{Tables}
-use Rattle.lines.specs.Line.{Line, Section, sectionOf}
+use Rattle.text.specs.Line.{Line}
+use Rattle.lines.specs.Line.{Section, sectionOf}
 use Rattle.lines.specs.Checks.{shaped, laterRead, badName, notKnown, twice, full, stallInStable, conflict, sectionChecks, lineRefusal}
-use Rattle.lines.specs.Told.{tells, Refuses}
+use Rattle.lines.specs.Told.{Refuses}
 
 -- ---- a refusal of one line
 
+-- The refusal with this number at line k; no refusal where the number is 0.
+abbrev pub tells : ℕ → ℕ → Refusal
+tells number k = cond (eqb number 0) none (refusal number k)
+
+-- refusals that are equal have one number
+pub numbered : {r s : Refusal} → r ≡ s → r .number ≡ s .number
+numbered e = ap (λ (x : Refusal). x .number) e
+
 pub tells-some : (n k : ℕ) → (n ≡ 0 → ⊥) → tells n k ≡ refusal n k
-tells-some n k h = ap (λ (b : Bool). pickRefusal b none (refusal n k)) (ne-eqb n 0 h)
+tells-some n k h = ap (λ (b : Bool). cond b none (refusal n k)) (ne-eqb n 0 h)
 
 pub tells-number : (n k : ℕ) → tells n k .number ≡ n
 tells-number n k = go (eqb n 0) refl
   where
     go : (b : Bool) → eqb n 0 ≡ b → tells n k .number ≡ n
-    go true e = ap (λ (c : Bool). pickRefusal c none (refusal n k) .number) e ∙ sym (eqb-true n 0 e)
-    go false e = ap (λ (c : Bool). pickRefusal c none (refusal n k) .number) e
+    go true e = ap (λ (c : Bool). cond c none (refusal n k) .number) e ∙ sym (eqb-true n 0 e)
+    go false e = ap (λ (c : Bool). cond c none (refusal n k) .number) e
 
 -- ---- checks that tell the same line
 
@@ -78,13 +87,12 @@ pub section-told : (s : Section) (t : Tables) (k : ℕ) (f : Line) → firstOf (
 unfolding lineNumber firstNumber
 section-told s t k f = one-line k (eight s t k f)
 
--- a line of section s is refused with its number
-pub refuses : (line : List ℕ) (t : Tables) (s : Section) (n : ℕ) → sectionOf (split 9 line) ≡ s → lineNumber s t (split 9 line) ≡ n → Refuses t line n
+-- the checks of a line are those of its section
+pub in-section : (t : Tables) (k : ℕ) (f : Line) (s : Section) → sectionOf f ≡ s → lineRefusal t k f ≡ firstOf (sectionChecks s t k f)
 unfolding lineRefusal
-refuses line t s n e q k =
-    ap (λ (x : Section). firstOf (sectionChecks x t k (split 9 line))) e ∙ section-told s t k (split 9 line) ∙ ap (λ (m : ℕ). tells m k) q
+in-section t k f s e = ap (λ (x : Section). firstOf (sectionChecks x t k f)) e
 
--- two numbers that a line is refused with are the same
-pub refuses-one : (t : Tables) (line : List ℕ) (m n : ℕ) → Refuses t line m → Refuses t line n → m ≡ n
-refuses-one t line m n p q =
-    sym (tells-number m 1) ∙ ap (λ (r : Refusal). r .number) (sym (p 1) ∙ q 1) ∙ tells-number n 1
+-- a line of section s is refused with its number
+pub refuses : (line : List ℕ) (t : Tables) (s : Section) (n k : ℕ) → sectionOf (split 9 line) ≡ s → lineNumber s t (split 9 line) ≡ n → Refuses t k line (tells n k)
+refuses line t s n k e q =
+    in-section t k (split 9 line) s e ∙ section-told s t k (split 9 line) ∙ ap (λ (m : ℕ). tells m k) q

@@ -10,7 +10,8 @@ use Rattle.papers.specs.declared.Refusal.{Refusal}
 use Rattle.papers.specs.Checks.{Check, firstOf, row, FirstGiven}
 use Rattle.papers.proofs.Checks.{only-given}
 use Rattle.tables.specs.declared.Tables.{Tables}
-use Rattle.lines.specs.Line.{Line, Section, sectionOf}
+use Rattle.text.specs.Line.{Line}
+use Rattle.lines.specs.Line.{Section, sectionOf}
 use Rattle.lines.specs.Checks.{shaped, laterRead, badName, notKnown, twice, full, stallInStable, conflict, sectionChecks, lineChecks, lineRefusal}
 
 -- The numbers of the checks go up from n by one.

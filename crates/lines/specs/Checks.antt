@@ -16,7 +16,8 @@ use Rattle.tables.specs.declared.Tables.{Tables}
 use Rattle.tables.specs.Tables.{storedOf, statesOf, noState}
 use Rattle.tables.specs.Clash.{anyClash}
 use Rattle.tables.specs.names.Names.{isMessage, isEvent, isState, stateAt}
-use Rattle.lines.specs.Line.{Line, field, says, Section, message, event, state, cell, unknown, sectionOf, isKind, isController, controllerOf, isStability, cellController, sentFields, cellOf}
+use Rattle.text.specs.Line.{Line, field, says}
+use Rattle.lines.specs.Line.{Section, message, event, state, cell, unknown, sectionOf, isKind, isController, controllerOf, isStability, cellController, sentFields, cellOf}
 
 -- ---- 4 SHAPE: "unknown record, field count, or fixed word"
 

@@ -5,6 +5,7 @@ use mathlib.Core.List.{List, [], _++_, map}
 use lib.ListN.{length, getD, drop, replicate}
 use Rattle.rules.specs.declared.Message.{Message}
 use Rattle.text.specs.Parts.{sameText}
+use Rattle.text.specs.Line.{Line, field, says}
 use Rattle.text.specs.Name.{nameOf}
 use Rattle.text.specs.Words.{messageWord, eventWord, stateWord, cellWord, reqWord, fwdWord, dataWord, ctlWord, cacheWord, dirWord, stableWord, transientWord, stallWord}
 use Rattle.tables.specs.declared.Kind.{Kind}
@@ -24,32 +25,17 @@ use Rattle.tables.specs.declared.Cell.{Cell}
 use Rattle.tables.specs.declared.Tables.{Tables}
 use Rattle.tables.specs.names.Names.{messageAt, eventAt, stateAt, isMessage}
 
-abbrev pub Line : Type 0
-Line = List (List ℕ)
-
--- Field i, counted from 0; empty where the line has fewer.
-abbrev pub field : Line → ℕ → List ℕ
-field f i = getD f i []
-
--- Field i is this word.
-abbrev pub says : Line → ℕ → List ℕ → Bool
-says f i word = sameText (field f i) word
-
 -- ---- the four sections, by the first field
 
 pub data Section : Type 0 where
   message event state cell unknown : Section
 
-abbrev pub pickSection : Bool → Section → Section → Section
-pickSection true a b = a
-pickSection false a b = b
-
 unfoldable pub sectionOf : Line → Section
 sectionOf f =
-    pickSection (says f 0 messageWord) message
-    (pickSection (says f 0 eventWord) event
-    (pickSection (says f 0 stateWord) state
-    (pickSection (says f 0 cellWord) cell unknown)))
+    cond (says f 0 messageWord) message
+    (cond (says f 0 eventWord) event
+    (cond (says f 0 stateWord) state
+    (cond (says f 0 cellWord) cell unknown)))
 
 -- ---- fixed words
 

@@ -7,7 +7,7 @@ pub mod words;
 ghost use mathlib.Core.Path.{_≡_};
 ghost use Prim.Native.Nat.{_<_};
 ghost use Rattle.text.specs.Parts.{split};
-ghost use Rattle.lines.specs.Line.{field, says};
+ghost use Rattle.text.specs.Line.{field, says};
 ghost use Rattle.lines.specs.Told.{FieldsAre};
 use text::Fields;
 

@@ -2,7 +2,7 @@
 ghost use mathlib.Core.Path.{_≡_};
 ghost use Prim.Native.Nat.{_<_};
 ghost use Rattle.text.specs.Parts.{split};
-ghost use Rattle.lines.specs.Line.{field};
+ghost use Rattle.text.specs.Line.{field};
 ghost use Rattle.lines.specs.Told.{FieldsAre};
 ghost use Rattle.lines.specs.words.Found.{foundKind, foundController, foundStability};
 use tables::Controller;

@@ -1,6 +1,6 @@
 -- Laws of the reading of a mapping: the loop over its lines.
 use mathlib.Core.Path.{_≡_, refl, sym, ap, ap₂, _∙_}
-use mathlib.Core.Bool.{Bool, true, false}
+use mathlib.Core.Bool.{Bool, true, false, cond}
 use mathlib.Core.List.{List, [], _∷_, _++_, map, append-assoc, map-append}
 use Prim.Native.Nat.{ℕ, zero, suc, _+_, _-_, _≤_, _<_}
 use native.Mathlib.Omega.{arith}
@@ -12,43 +12,41 @@ use Rattle.text.specs.Parts.{part, place, split, lines}
 use Rattle.text.specs.Words.{mappingHeader}
 use Rattle.text.proofs.Lines.{lines-end}
 use Rattle.papers.specs.declared.Refusal.{Refusal}
-use Rattle.papers.specs.Checks.{refusal, none, pickRefusal}
+use Rattle.papers.specs.Checks.{refusal, none}
 use Rattle.papers.specs.Opening.{openingOf}
 use Rattle.papers.specs.Lined.{Lined}
 use Rattle.papers.proofs.OpeningLaws.{opened}
 use Rattle.papers.proofs.Walk.{NextLine, walk-next}
 use Rattle.tables.specs.declared.MessageRow.{MessageRow}
 use Rattle.mapping.specs.declared.Mapped.{Mapped}
-use Rattle.mapping.specs.declared.lines.MapLine.{MapLine}
-use Rattle.mapping.specs.lines.Shape.{Line, field, shaped}
-use Rattle.mapping.specs.lines.Line.{lineRefusal}
-use Rattle.mapping.specs.networks.Networks.{networkOf}
-use Rattle.mapping.specs.Reading.{networkNo, refused, pickMapped, unless, readMaps, readMapping}
-use Rattle.mapping.specs.lines.Line.{mapLine}
-use Rattle.mapping.proofs.lines.LineLaws.{refusalAt, line-shape, line-many, line-gives}
+use Rattle.text.specs.Line.{Line, field}
+use Rattle.mapping.specs.lines.Line.{mapShaped, mapRefusal}
+use Rattle.mapping.specs.networks.Networks.{networkOf, networkNo}
+use Rattle.mapping.specs.Reading.{mapsRefused, mapsUnless, readMaps, readMapping}
+use Rattle.mapping.proofs.lines.LineLaws.{line-shape, line-many, line-next}
 
 -- ---- one step of the reading
 
-unless-none : (r : Refusal) (a : Mapped) → r .number ≡ 0 → unless r a ≡ a
-unless-none r a e = ap (λ (t : Bool). pickMapped t a (refused r)) (eq-eqb (r .number) 0 e)
+maps-passed : (r : Refusal) (a : Mapped) → r .number ≡ 0 → mapsUnless r a ≡ a
+maps-passed r a e = ap (λ (t : Bool). cond t a (mapsRefused r)) (eq-eqb (r .number) 0 e)
 
-unless-some : (r : Refusal) (a : Mapped) → (r .number ≡ 0 → ⊥) → unless r a ≡ refused r
-unless-some r a e = ap (λ (t : Bool). pickMapped t a (refused r)) (ne-eqb (r .number) 0 e)
+maps-stopped : (r : Refusal) (a : Mapped) → (r .number ≡ 0 → ⊥) → mapsUnless r a ≡ mapsRefused r
+maps-stopped r a e = ap (λ (t : Bool). cond t a (mapsRefused r)) (ne-eqb (r .number) 0 e)
 
 module _ (k : ℕ) (l : List ℕ) (ls : List (List ℕ)) (next : List MessageRow) (ns : List ℕ) where
   -- the next line gives a refusal
-  pub maps-stop : (lineRefusal next k (split 9 l) .number ≡ 0 → ⊥) → readMaps k (l ∷ ls) next ns ≡ refused (lineRefusal next k (split 9 l))
+  pub maps-stop : (mapRefusal next k (split 9 l) .number ≡ 0 → ⊥) → readMaps k (l ∷ ls) next ns ≡ mapsRefused (mapRefusal next k (split 9 l))
   unfolding readMaps
-  maps-stop h = unless-some (lineRefusal next k (split 9 l)) (readMaps (suc k) ls (drop 1 next) (ns ++ (networkOf (field (split 9 l) 2) ∷ []))) h
+  maps-stop h = maps-stopped (mapRefusal next k (split 9 l)) (readMaps (suc k) ls (drop 1 next) (ns ++ (networkOf (field (split 9 l) 2) ∷ []))) h
 
-  pub maps-refused : (n : ℕ) → (n ≡ 0 → ⊥) → lineRefusal next k (split 9 l) ≡ refusal n k → readMaps k (l ∷ ls) next ns ≡ refused (refusal n k)
-  maps-refused n h e = maps-stop (λ q. h (sym (ap (λ (r : Refusal). r .number) e) ∙ q)) ∙ ap refused e
+  pub maps-refused : (why : Refusal) → (why .number ≡ 0 → ⊥) → mapRefusal next k (split 9 l) ≡ why → readMaps k (l ∷ ls) next ns ≡ mapsRefused why
+  maps-refused why h e = maps-stop (λ q. h (sym (ap (λ (r : Refusal). r .number) e) ∙ q)) ∙ ap mapsRefused e
 
   -- it gives none
-  pub maps-more : lineRefusal next k (split 9 l) .number ≡ 0
+  pub maps-more : mapRefusal next k (split 9 l) .number ≡ 0
       → readMaps k (l ∷ ls) next ns ≡ readMaps (suc k) ls (drop 1 next) (ns ++ (networkOf (field (split 9 l) 2) ∷ []))
   unfolding readMaps
-  maps-more e = unless-none (lineRefusal next k (split 9 l)) (readMaps (suc k) ls (drop 1 next) (ns ++ (networkOf (field (split 9 l) 2) ∷ []))) e
+  maps-more e = maps-passed (mapRefusal next k (split 9 l)) (readMaps (suc k) ls (drop 1 next) (ns ++ (networkOf (field (split 9 l) 2) ∷ []))) e
 
 -- ---- the loop
 
@@ -83,19 +81,19 @@ module _ (d : MessageRow) (text : List ℕ) (from : ℕ) (messages : List Messag
   module _ (at i : ℕ) (networks : List Network) (g : Going text from messages count at i networks) where
     -- no line is left
     pub going-done : length text ≤ at → count ≤ i → length messages ≡ 32 → count ≤ 32
-        → record { number = 0; line = 0; networks = networks } ≡ readMaps 2 (lines (drop from text)) (take count messages) []
+        → record { refusal = none; networks = networks } ≡ readMaps 2 (lines (drop from text)) (take count messages) []
     unfolding readMaps
     going-done h k m o =
         let ms = take count messages in
         let w : length ms ≤ i = omega (arith, length-take-le count messages (omega arith)) in
-        ap (λ (l : List Network). record { number = 0; line = 0; networks = l })
+        ap (λ (l : List Network). record { refusal = none; networks = l })
         (g .kept ∙ ap (λ (j : ℕ). map networkNo (g .ns ++ replicate (32 - j) 0)) (sym (g .long)))
         ∙ sym (ap₂ (λ (ls : List (List ℕ)) (next : List MessageRow). readMaps (i + 2) ls next (g .ns)) (lines-end text at h) (drop-of-length-le ms {i = i} w))
         ∙ g .goal
 
     -- a message has no line
     pub going-short : length text ≤ at → i < count → length messages ≡ 32 → count ≤ 32
-        → refused (refusal 14 (i + 2)) ≡ readMaps 2 (lines (drop from text)) (take count messages) []
+        → mapsRefused (refusal 14 (i + 2)) ≡ readMaps 2 (lines (drop from text)) (take count messages) []
     unfolding readMaps
     going-short h k m o =
         let ms = take count messages in
@@ -114,26 +112,26 @@ module _ (d : MessageRow) (text : List ℕ) (from : ℕ) (messages : List Messag
       line-within = (nextLine .from, nextLine .ends)
 
       -- the next line is refused
-      refused-here : (n : ℕ) → (n ≡ 0 → ⊥)
-          → lineRefusal (drop i (take count messages)) (i + 2) (split 9 (part text at (place 10 text at (length text)))) ≡ refusal n (i + 2)
-          → refused (refusal n (i + 2)) ≡ readMaps 2 (lines (drop from text)) (take count messages) []
-      refused-here n z q =
+      refused-by : (why : Refusal) → (why .number ≡ 0 → ⊥)
+          → mapRefusal (drop i (take count messages)) (i + 2) (split 9 (part text at (place 10 text at (length text)))) ≡ why
+          → mapsRefused why ≡ readMaps 2 (lines (drop from text)) (take count messages) []
+      refused-by why z q =
           sym (ap (λ (ls : List (List ℕ)). readMaps (i + 2) ls (drop i (take count messages)) (g .ns)) (nextLine .first)
-          ∙ maps-refused (i + 2) (part text at e) (lines (drop (e + 1) text)) (drop i (take count messages)) (g .ns) n z q)
+          ∙ maps-refused (i + 2) (part text at e) (lines (drop (e + 1) text)) (drop i (take count messages)) (g .ns) why z q)
           ∙ g .goal
 
-      pub going-shape : shaped (split 9 (part text at (place 10 text at (length text)))) ≡ false
-          → refused (refusal 4 (i + 2)) ≡ readMaps 2 (lines (drop from text)) (take count messages) []
-      going-shape q = refused-here 4 (λ z. omega arith) (line-shape (i + 2) (split 9 (part text at e)) (drop i (take count messages)) q)
+      pub going-shape : mapShaped (split 9 (part text at (place 10 text at (length text)))) ≡ false
+          → mapsRefused (refusal 4 (i + 2)) ≡ readMaps 2 (lines (drop from text)) (take count messages) []
+      going-shape q = refused-by (refusal 4 (i + 2)) (λ z. omega arith) (line-shape (i + 2) (split 9 (part text at e)) (drop i (take count messages)) q)
 
-      module _ (s : shaped (split 9 (part text at (place 10 text at (length text)))) ≡ true) (o : count ≤ 32) (m : length messages ≡ 32) where
+      module _ (s : mapShaped (split 9 (part text at (place 10 text at (length text)))) ≡ true) (o : count ≤ 32) (m : length messages ≡ 32) where
         long-messages : length (take count messages) ≡ count
         long-messages = length-take-le count messages (omega arith)
 
-        pub going-many : i ≡ count → refused (refusal 14 (i + 2)) ≡ readMaps 2 (lines (drop from text)) (take count messages) []
+        pub going-many : i ≡ count → mapsRefused (refusal 14 (i + 2)) ≡ readMaps 2 (lines (drop from text)) (take count messages) []
         going-many q =
-            refused-here 14 (λ z. omega arith)
-            (ap (λ (next : List MessageRow). lineRefusal next (i + 2) (split 9 (part text at e)))
+            refused-by (refusal 14 (i + 2)) (λ z. omega arith)
+            (ap (λ (next : List MessageRow). mapRefusal next (i + 2) (split 9 (part text at e)))
             (drop-of-length-le (take count messages) {i = i} (omega (arith, long-messages)))
             ∙ line-many (i + 2) (split 9 (part text at e)) s)
 
@@ -143,62 +141,55 @@ module _ (d : MessageRow) (text : List ℕ) (from : ℕ) (messages : List Messag
               drop-cons (take count messages) i d (omega (arith, long-messages))
               ∙ ap (λ (r : MessageRow). r ∷ drop (suc i) (take count messages)) (getD-take count messages i d k)
 
-          checks : lineRefusal (drop i (take count messages)) (i + 2) (split 9 (part text at (place 10 text at (length text))))
-              ≡ refusalAt (i + 2) (mapLine (getD messages i d) (split 9 (part text at (place 10 text at (length text)))) .number)
+          checks : mapRefusal (drop i (take count messages)) (i + 2) (split 9 (part text at (place 10 text at (length text))))
+              ≡ mapRefusal (getD messages i d ∷ []) (i + 2) (split 9 (part text at (place 10 text at (length text))))
           checks =
-              ap (λ (next : List MessageRow). lineRefusal next (i + 2) (split 9 (part text at e))) turn
-              ∙ line-gives (i + 2) (split 9 (part text at e)) (getD messages i d) (drop (suc i) (take count messages)) s
+              ap (λ (next : List MessageRow). mapRefusal next (i + 2) (split 9 (part text at e))) turn
+              ∙ line-next (i + 2) (split 9 (part text at e)) (getD messages i d) (drop (suc i) (take count messages))
 
-          pub going-refused : (n : ℕ) → n ≡ mapLine (getD messages i d) (split 9 (part text at (place 10 text at (length text)))) .number → (n ≡ 0 → ⊥)
-              → refused (refusal n (i + 2)) ≡ readMaps 2 (lines (drop from text)) (take count messages) []
-          going-refused n q z =
-              refused-here n z
-              (checks ∙ ap (refusalAt (i + 2)) (sym q) ∙ ap (λ (t : Bool). pickRefusal t none (refusal n (i + 2))) (ne-eqb n 0 z))
+          pub going-refused : (why : Refusal) → why ≡ mapRefusal (getD messages i d ∷ []) (i + 2) (split 9 (part text at (place 10 text at (length text)))) → (why .number ≡ 0 → ⊥)
+              → mapsRefused why ≡ readMaps 2 (lines (drop from text)) (take count messages) []
+          going-refused why q z = refused-by why z (checks ∙ sym q)
 
-          pub going-more : (n : ℕ) → mapLine (getD messages i d) (split 9 (part text at (place 10 text at (length text)))) .number ≡ 0
-              → n ≡ networkOf (field (split 9 (part text at (place 10 text at (length text)))) 2)
-              → Going text from messages count (place 10 text at (length text) + 1) (i + 1) (set networks i (networkNo n))
-          going-more n q v =
+          pub going-more : (why : Refusal) → why ≡ mapRefusal (getD messages i d ∷ []) (i + 2) (split 9 (part text at (place 10 text at (length text)))) → why .number ≡ 0
+              → (network : Network) → network ≡ networkNo (networkOf (field (split 9 (part text at (place 10 text at (length text)))) 2))
+              → Going text from messages count (place 10 text at (length text) + 1) (i + 1) (set networks i network)
+          going-more why q z network v =
+              let n = networkOf (field (split 9 (part text at e)) 2) in
               let l = part text at e in
               let ms = take count messages in
-              let nothing : lineRefusal (drop i ms) (i + 2) (split 9 l) .number ≡ 0 =
-              ap (λ (r : Refusal). r .number) (checks ∙ ap (refusalAt (i + 2)) q) in
+              let nothing : mapRefusal (drop i ms) (i + 2) (split 9 l) .number ≡ 0 =
+              ap (λ (r : Refusal). r .number) (checks ∙ sym q) ∙ z in
               let on : suc (i + 2) ≡ i + 1 + 2 = omega arith in
               let step : drop 1 (drop i ms) ≡ drop (i + 1) ms = drop-drop 1 i ms in
-              let last : networkOf (field (split 9 l) 2) ≡ n = sym v in
               record {
                 left = nextLine .more;
                 few = omega arith;
                 ns = g .ns ++ (n ∷ []);
                 long = length-append (g .ns) (n ∷ []) ∙ ap (λ (j : ℕ). j + 1) (g .long);
-                kept = ap (λ (xs : List Network). set xs i (networkNo n)) (g .kept) ∙ stored (g .ns) i n (g .long) (omega arith);
+                kept = ap₂ (λ (xs : List Network) (x : Network). set xs i x) (g .kept) v ∙ stored (g .ns) i n (g .long) (omega arith);
                 goal =
                     sym
                     (ap (λ (ls : List (List ℕ)). readMaps (i + 2) ls (drop i ms) (g .ns)) (nextLine .first)
                     ∙ maps-more (i + 2) l (lines (drop (e + 1) text)) (drop i ms) (g .ns) nothing
                     ∙ ap (λ (j : ℕ). readMaps j (lines (drop (e + 1) text)) (drop 1 (drop i ms)) (g .ns ++ (networkOf (field (split 9 l) 2) ∷ []))) on
-                    ∙ ap₂ (λ (next : List MessageRow) (v : ℕ). readMaps (i + 1 + 2) (lines (drop (e + 1) text)) next (g .ns ++ (v ∷ []))) step last)
+                    ∙ ap (λ (next : List MessageRow). readMaps (i + 1 + 2) (lines (drop (e + 1) text)) next (g .ns ++ (n ∷ []))) step)
                     ∙ g .goal;
               }
 
 -- ---- the whole text
 
 module _ (messages : List MessageRow) (text : List ℕ) where
-  pub reading-refused : (openingOf mappingHeader text .number ≡ 0 → ⊥) → readMapping messages text ≡ refused (openingOf mappingHeader text)
+  pub reading-refused : (openingOf mappingHeader text .number ≡ 0 → ⊥) → readMapping messages text ≡ mapsRefused (openingOf mappingHeader text)
   unfolding readMapping
-  reading-refused h = unless-some (openingOf mappingHeader text) (readMaps 2 (drop 1 (lines text)) messages []) h
+  reading-refused h = maps-stopped (openingOf mappingHeader text) (readMaps 2 (drop 1 (lines text)) messages []) h
 
   pub reading-opened : openingOf mappingHeader text .number ≡ 0 → readMapping messages text ≡ readMaps 2 (drop 1 (lines text)) messages []
   unfolding readMapping
-  reading-opened h = unless-none (openingOf mappingHeader text) (readMaps 2 (drop 1 (lines text)) messages []) h
+  reading-opened h = maps-passed (openingOf mappingHeader text) (readMaps 2 (drop 1 (lines text)) messages []) h
 
   -- the lines behind the header
   pub reading-lines : (r : Mapped) → openingOf mappingHeader text .number ≡ 0
       → r ≡ readMaps 2 (lines (drop (place 10 text 0 (length text) + 1) text)) messages [] → r ≡ readMapping messages text
   reading-lines r h q =
       q ∙ ap (λ (ls : List (List ℕ)). readMaps 2 ls messages []) (opened mappingHeader text h .rest) ∙ sym (reading-opened h)
-
--- the network of what a line gives
-pub network-told : (m : MessageRow) (f : Line) (r : MapLine) → r ≡ mapLine m f → r .network ≡ networkOf (field f 2)
-unfolding mapLine
-network-told m f r q = ap (λ (l : MapLine). l .network) q

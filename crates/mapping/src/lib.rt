@@ -7,26 +7,24 @@ ghost use mathlib.Core.List.{[]};
 ghost use Prim.Native.Nat.{_≤_};
 ghost use lib.ListN.{take, drop};
 ghost use Rattle.text.specs.Parts.{lines};
-ghost use Rattle.papers.specs.Checks.{refusal};
 ghost use Rattle.papers.specs.Lined.{Lined};
-ghost use Rattle.mapping.specs.Reading.{refused, readMaps, readMapping};
+ghost use Rattle.mapping.specs.Reading.{mapsRefused, readMaps, readMapping};
+use papers::Refusal;
 use rules::Network;
 use tables::MessageRow;
 
 // What reading a mapping gives: the network of each message, or why and where it is refused.
 pub struct Mapped {
-    pub number: u8,
-    pub line: usize,
+    pub refusal: Refusal,
     pub networks: [Network; 32],
 }
 
 // A mapping that is refused has no networks.
-fn refuse(number: u8, line: usize) -> Mapped
-    ensures { λ r. ⌜ r ≡ refused (refusal number line) ⌝ }
+fn refuse(why: Refusal) -> Mapped
+    ensures { λ r. ⌜ r ≡ mapsRefused why ⌝ }
 {
     Mapped {
-        number: number,
-        line: line,
+        refusal: why,
         networks: [Network(0); 32],
     }
 }
@@ -42,29 +40,38 @@ fn map_lines(text: &[u8], from: usize, messages: [MessageRow; 32], count: usize)
     let mut i = 0;
     while at < n {
         let e = text::find(text, 10, at, n);
+        let nth = i + 2;
         if !crate::lines::is_map(&text[at..e]) {
-            return refuse(4, i + 2);
+            return refuse(Refusal {
+                number: papers::SHAPE,
+                line: nth,
+            });
         }
         if i == count {
-            return refuse(14, i + 2);
+            return refuse(Refusal {
+                number: papers::UNMATCHED,
+                line: nth,
+            });
         }
         let row = messages[i];
-        let line = crate::lines::map_line(&text[at..e], row);
-        let number = line.number;
-        if number != 0 {
-            return refuse(number, i + 2);
+        let line = crate::lines::map_line(&text[at..e], nth, row);
+        if line.refusal.number != 0 {
+            return refuse(line.refusal);
         }
         let network = line.network;
-        networks[i] = Network(network);
+        networks[i] = network;
         at = e + 1;
         i += 1;
     }
     if i < count {
-        return refuse(14, i + 2);
+        let missing = i + 2;
+        return refuse(Refusal {
+            number: papers::UNMATCHED,
+            line: missing,
+        });
     }
     Mapped {
-        number: 0,
-        line: 0,
+        refusal: Refusal { number: 0, line: 0 },
         networks: networks,
     }
 }
@@ -75,9 +82,8 @@ pub fn read_mapping(text: &[u8], messages: [MessageRow; 32], count: usize) -> Ma
     ensures { λ r. ⌜ r ≡ readMapping (take count messages) (now (text .entry)) ⌝ }
 {
     let opening = papers::opening(&text::words::MAPPING_HEADER, text);
-    let number = opening.number;
-    if number != 0 {
-        return refuse(number, opening.line);
+    if opening.number != 0 {
+        return refuse(opening);
     }
     let e = text::find(text, 10, 0, text.len());
     map_lines(text, e + 1, messages, count)

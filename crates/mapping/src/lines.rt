@@ -1,14 +1,23 @@
-// The shape of a line of a mapping.
+// One line of a mapping: its shape, and what it gives.
 ghost use mathlib.Core.Path.{_≡_};
-ghost use Rattle.text.specs.Parts.{split};
-ghost use Rattle.mapping.specs.lines.Shape.{shaped};
 ghost use mathlib.Core.Bool.{true};
-ghost use Rattle.mapping.specs.lines.Line.{mapLine};
+ghost use Rattle.text.specs.Parts.{split};
+ghost use Rattle.papers.specs.Checks.{refusal};
+ghost use Rattle.mapping.specs.lines.Line.{mapShaped, MapTold};
+use crate::networks::FoundNetwork;
+use papers::Refusal;
+use rules::Network;
 use tables::MessageRow;
+
+// How the line is refused, and its network where it is not.
+pub struct MapLine {
+    pub refusal: Refusal,
+    pub network: Network,
+}
 
 // Whether the line has three fields, the first of which is the word.
 pub(crate) fn is_map(line: &[u8]) -> bool
-    ensures { λ r. ⌜ r ≡ shaped (split 9 (now (line .entry))) ⌝ }
+    ensures { λ r. ⌜ r ≡ mapShaped (split 9 (now (line .entry))) ⌝ }
 {
     let fields = text::line_fields::fields_of(line, 0, line.len());
     if fields.count != 3 {
@@ -21,18 +30,23 @@ pub(crate) fn is_map(line: &[u8]) -> bool
     text::same(&line[a..e], &text::words::MAP)
 }
 
-// ---- One line of a mapping that has its shape: what it gives.
-
-// What a line gives: the number of its refusal, 0 where there is none, and its network, 32 where it is not written as one.
-pub struct MapLine {
-    pub number: u8,
-    pub network: u8,
+// The nth line, which is refused, gives no network.
+fn no_network(number: u8, nth: usize) -> MapLine
+    ensures { λ r. ⌜ r .refusal ≡ refusal number nth ⌝ }
+{
+    MapLine {
+        refusal: Refusal {
+            number: number,
+            line: nth,
+        },
+        network: Network(0),
+    }
 }
 
-// What a line with three fields gives, where it is the turn of this message.
-pub(crate) fn map_line(line: &[u8], row: MessageRow) -> MapLine
-    requires { ⌜ shaped (split 9 (now line)) ≡ true ⌝ }
-    ensures { λ r. ⌜ r ≡ mapLine row (split 9 (now (line .entry))) ⌝ }
+// What the nth line, which is shaped, gives where it is the turn of this message.
+pub(crate) fn map_line(line: &[u8], nth: usize, row: MessageRow) -> MapLine
+    requires { ⌜ mapShaped (split 9 (now line)) ≡ true ⌝ }
+    ensures { λ r. ⌜ MapTold nth row (split 9 (now (line .entry))) r ⌝ }
 {
     let fields = text::line_fields::fields_of(line, 0, line.len());
     let starts = fields.from;
@@ -42,22 +56,14 @@ pub(crate) fn map_line(line: &[u8], row: MessageRow) -> MapLine
     let s = starts[2];
     let t = ends[2];
     let name = row.name;
-    let network = crate::networks::network_of(&line[s..t]);
-    let matched = text::names::named(name, &line[a..e]);
-    if !matched {
-        return MapLine {
-            number: 14,
-            network: network,
-        };
+    if !text::names::named(name, &line[a..e]) {
+        return no_network(papers::UNMATCHED, nth);
     }
-    if 31 < network {
-        return MapLine {
-            number: 15,
-            network: network,
-        };
-    }
+    let FoundNetwork::Is(network) = crate::networks::network_of(&line[s..t]) else {
+        return no_network(papers::NETWORK, nth);
+    };
     MapLine {
-        number: 0,
+        refusal: Refusal { number: 0, line: 0 },
         network: network,
     }
 }

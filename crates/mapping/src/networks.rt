@@ -1,50 +1,53 @@
 // The network that a field writes.
 ghost use mathlib.Core.Path.{_≡_};
 ghost use mathlib.Core.List.{[], _∷_};
-ghost use Rattle.mapping.specs.networks.Networks.{networkOf};
+ghost use Rattle.mapping.specs.networks.Networks.{foundNetwork};
+use rules::Network;
 
-// The network that is written by one digit, and 32 where the byte is none.
-fn one_digit(a: u8) -> u8
-    ensures { λ r. ⌜ r ≡ networkOf (a ∷ []) ⌝ }
-{
-    if a < 48 {
-        return 32;
-    }
-    if 57 < a {
-        return 32;
-    }
-    a - 48
+pub enum FoundNetwork {
+    Is(Network),
+    Nothing,
 }
 
-// The network that is written by two digits, and 32 where the bytes write none: the first digit is not 0.
-fn two_digits(a: u8, b: u8) -> u8
-    ensures { λ r. ⌜ r ≡ networkOf (a ∷ b ∷ []) ⌝ }
+// The network that is written by one digit.
+fn one_digit(a: u8) -> FoundNetwork
+    ensures { λ r. ⌜ r ≡ foundNetwork (a ∷ []) ⌝ }
 {
-    if a < 48 {
-        return 32;
+    if a < b'0' {
+        return FoundNetwork::Nothing;
     }
-    if 51 < a {
-        return 32;
+    if b'9' < a {
+        return FoundNetwork::Nothing;
     }
-    if b < 48 {
-        return 32;
+    FoundNetwork::Is(Network(a - b'0'))
+}
+
+// The network that is written by two digits: the first is not 0, and the number is at most 31.
+fn two_digits(a: u8, b: u8) -> FoundNetwork
+    ensures { λ r. ⌜ r ≡ foundNetwork (a ∷ b ∷ []) ⌝ }
+{
+    if a < b'1' {
+        return FoundNetwork::Nothing;
     }
-    if 57 < b {
-        return 32;
+    if b'3' < a {
+        return FoundNetwork::Nothing;
     }
-    let v = (a - 48) * 10 + (b - 48);
-    if v < 10 {
-        return 32;
+    if b < b'0' {
+        return FoundNetwork::Nothing;
     }
+    if b'9' < b {
+        return FoundNetwork::Nothing;
+    }
+    let v = (a - b'0') * 10 + (b - b'0');
     if 31 < v {
-        return 32;
+        return FoundNetwork::Nothing;
     }
-    v
+    FoundNetwork::Is(Network(v))
 }
 
-// The network that is written so, and 32 where none is.
-pub(crate) fn network_of(field: &[u8]) -> u8
-    ensures { λ r. ⌜ r ≡ networkOf (now (field .entry)) ⌝ }
+// The network that is written so.
+pub(crate) fn network_of(field: &[u8]) -> FoundNetwork
+    ensures { λ r. ⌜ r ≡ foundNetwork (now (field .entry)) ⌝ }
 {
     if field.len() == 1 {
         return one_digit(field[0]);
@@ -52,5 +55,5 @@ pub(crate) fn network_of(field: &[u8]) -> u8
     if field.len() == 2 {
         return two_digits(field[0], field[1]);
     }
-    32
+    FoundNetwork::Nothing
 }

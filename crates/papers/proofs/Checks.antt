@@ -1,24 +1,24 @@
 -- Laws of checks: each refusal is given only under its row, and the first given row gives it.
 use mathlib.Core.Path.{_≡_, refl, sym, ap, _∙_}
-use mathlib.Core.Bool.{Bool, true, false}
+use mathlib.Core.Bool.{Bool, true, false, cond}
 use mathlib.Core.List.{List, [], _∷_}
 use mathlib.Core.Logic.{_⊎_, inl, inr, ⊎-elim}
 use Prim.Native.Nat.{ℕ, zero, suc, _<_}
 use native.Mathlib.Omega.{arith}
 use lib.ListN.{length}
 use Rattle.papers.specs.declared.Refusal.{Refusal}
-use Rattle.papers.specs.Checks.{Check, none, pickRefusal, firstOf, row, told, FirstGiven, ToldBy, NoneGiven}
+use Rattle.papers.specs.Checks.{Check, none, firstOf, row, told, FirstGiven, ToldBy, NoneGiven}
 
 module _ (c : Check) (cs : List Check) where
   -- the first check is given
   pub first-given : c .given ≡ true → firstOf (c ∷ cs) ≡ told c
   unfolding firstOf
-  first-given e = ap (λ (t : Bool). pickRefusal t (told c) (firstOf cs)) e
+  first-given e = ap (λ (t : Bool). cond t (told c) (firstOf cs)) e
 
   -- it is not
   pub first-passed : c .given ≡ false → firstOf (c ∷ cs) ≡ firstOf cs
   unfolding firstOf
-  first-passed e = ap (λ (t : Bool). pickRefusal t (told c) (firstOf cs)) e
+  first-passed e = ap (λ (t : Bool). cond t (told c) (firstOf cs)) e
 
 none-more : (c : Check) (cs : List Check) → c .given ≡ false → NoneGiven cs → NoneGiven (c ∷ cs)
 none-more c cs e h = record { passed = at }

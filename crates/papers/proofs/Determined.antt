@@ -1,4 +1,4 @@
--- The contract of `opening` leaves one answer.
+-- Each contract of this crate leaves one answer.
 use mathlib.Core.Path.{_≡_}
 use mathlib.Core.List.{List}
 use Prim.Native.Nat.{ℕ}

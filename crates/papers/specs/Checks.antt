@@ -1,7 +1,7 @@
 -- Checks as data, in the paper's order: what is refused is the first check that holds.
 use Prim.Native.Nat.{ℕ, _<_}
 use mathlib.Core.Path.{_≡_}
-use mathlib.Core.Bool.{Bool, true, false}
+use mathlib.Core.Bool.{Bool, true, false, cond}
 use mathlib.Core.List.{List, [], _∷_}
 use lib.ListN.{length, getD}
 use Rattle.papers.specs.declared.Refusal.{Refusal}
@@ -22,14 +22,10 @@ refusal number line = record { number = number; line = line }
 abbrev pub none : Refusal
 none = refusal 0 0
 
-abbrev pub pickRefusal : Bool → Refusal → Refusal → Refusal
-pickRefusal true a b = a
-pickRefusal false a b = b
-
 -- The first check that is given.
 unfoldable pub firstOf : List Check → Refusal
 firstOf [] = none
-firstOf (c ∷ cs) = let rest = firstOf cs in pickRefusal (c .given) (refusal (c .number) (c .line)) rest
+firstOf (c ∷ cs) = let rest = firstOf cs in cond (c .given) (refusal (c .number) (c .line)) rest
 
 -- ---- under its row
 

@@ -2,7 +2,47 @@
 ghost use mathlib.Core.Path.{_≡_};
 ghost use Rattle.papers.specs.Opening.{openingOf};
 
-// Why and where a paper is refused: number 0 where it is not.
+// The refusal table: a name for each number.
+pub const TOO_BIG: u8 = 1;
+
+pub const NO_END: u8 = 2;
+
+pub const HEADER: u8 = 3;
+
+pub const SHAPE: u8 = 4;
+
+pub const ORDER: u8 = 5;
+
+pub const NAME: u8 = 6;
+
+pub const UNKNOWN: u8 = 7;
+
+pub const TWICE: u8 = 8;
+
+pub const FULL: u8 = 9;
+
+pub const STALL_STABLE: u8 = 10;
+
+pub const CONFLICT: u8 = 11;
+
+pub const NO_MESSAGE: u8 = 12;
+
+pub const NO_ENTRY: u8 = 13;
+
+pub const UNMATCHED: u8 = 14;
+
+pub const NETWORK: u8 = 15;
+
+pub const ROOM: u8 = 16;
+
+pub const COUNT: u8 = 17;
+
+pub const STRAY: u8 = 18;
+
+// The most bytes that a text may have.
+pub const MOST_BYTES: usize = 49152;
+
+// Why and where a paper is refused: one value from the line that finds it to the answer. Its number is 0 where nothing is refused.
 pub struct Refusal {
     pub number: u8,
     pub line: usize,
@@ -13,21 +53,30 @@ pub fn opening(header: &[u8], text: &[u8]) -> Refusal
     ensures { λ r. ⌜ r ≡ openingOf (now (header .entry)) (now (text .entry)) ⌝ }
 {
     let n = text.len();
-    if 49152 < n {
-        return Refusal { number: 1, line: 0 };
+    if MOST_BYTES < n {
+        return Refusal {
+            number: TOO_BIG,
+            line: 0,
+        };
     }
     if n == 0 {
-        return Refusal { number: 3, line: 1 };
+        return Refusal {
+            number: HEADER,
+            line: 1,
+        };
     }
     if text[n - 1] != 10 {
         return Refusal {
-            number: 2,
+            number: NO_END,
             line: text::count(text, 10) + 1,
         };
     }
     let e = text::find(text, 10, 0, n);
     if !text::same(&text[..e], header) {
-        return Refusal { number: 3, line: 1 };
+        return Refusal {
+            number: HEADER,
+            line: 1,
+        };
     }
     Refusal { number: 0, line: 0 }
 }

@@ -12,7 +12,7 @@ pub fn read_protocol(text: &[u8]) -> Reading
 {
     let o = papers::opening(&text::words::PROTOCOL_HEADER, text);
     if o.number != 0 {
-        return crate::whole::refused_at(o.number, o.line);
+        return crate::whole::refused_at(o);
     }
     let e = text::find(text, 10, 0, text.len());
     crate::sections::read_messages(text, e + 1, 2, tables::cleared())

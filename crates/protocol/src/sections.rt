@@ -2,7 +2,8 @@
 ghost use mathlib.Core.Path.{_≡_};
 ghost use lib.ListN.{drop};
 ghost use Rattle.text.specs.Parts.{lines, split};
-ghost use Rattle.lines.specs.Line.{message, event, state, says, cell};
+ghost use Rattle.text.specs.Line.{says};
+ghost use Rattle.lines.specs.Line.{message, event, state, cell};
 ghost use Rattle.protocol.specs.sections.Lines.{readLines};
 ghost use Rattle.protocol.specs.whole.Kept.{Kept};
 ghost use Rattle.protocol.specs.sections.Sections.{Placed, Stage};
@@ -34,9 +35,9 @@ pub(crate) fn read_messages(text: &[u8], from: usize, first: usize, given: Table
         }
         let rows = t.messages;
         let count = t.message_count;
-        let r = declarations::messages::message_line(&text[at..e], f, rows, count);
-        if r.number != 0 {
-            return crate::whole::refused_at(r.number, line);
+        let r = declarations::messages::message_line(&text[at..e], f, line, rows, count);
+        if r.refusal.number != 0 {
+            return crate::whole::refused_at(r.refusal);
         }
         let row = r.row;
         t.messages[count] = row;
@@ -70,13 +71,14 @@ fn read_events(text: &[u8], from: usize, first: usize, given: Tables) -> Reading
         let r = declarations::events::event_line(
             &text[at..e],
             f,
+            line,
             messages,
             t.message_count,
             rows,
             count,
         );
-        if r.number != 0 {
-            return crate::whole::refused_at(r.number, line);
+        if r.refusal.number != 0 {
+            return crate::whole::refused_at(r.refusal);
         }
         let row = r.row;
         t.events[count] = row;
@@ -106,9 +108,9 @@ fn read_states(text: &[u8], from: usize, first: usize, given: Tables) -> Reading
         }
         let rows = t.states;
         let count = t.state_count;
-        let r = declarations::states::state_line(&text[at..e], f, rows, count);
-        if r.number != 0 {
-            return crate::whole::refused_at(r.number, line);
+        let r = declarations::states::state_line(&text[at..e], f, line, rows, count);
+        if r.refusal.number != 0 {
+            return crate::whole::refused_at(r.refusal);
         }
         let row = r.row;
         t.states[count] = row;
@@ -122,9 +124,9 @@ fn read_states(text: &[u8], from: usize, first: usize, given: Tables) -> Reading
 // ---- The lines of cells, to the end of a protocol text.
 
 // A cell's line, after what was read so far.
-fn cell_of(line: &[u8], f: Fields, t: Tables) -> CellLine
+fn cell_of(line: &[u8], f: Fields, nth: usize, t: Tables) -> CellLine
     requires { ⌜ FieldsAre (now line) f × (says (split 9 (now line)) 0 cellWord ≡ true) × Kept t ⌝ }
-    ensures { λ r. ⌜ CellTold (now (line .entry)) (t .messages) (t .«message_count») (t .events) (t .«event_count») (t .states) (t .«state_count») (t .cells) (t .«cell_count») r ⌝ }
+    ensures { λ r. ⌜ CellTold nth (now (line .entry)) (t .messages) (t .«message_count») (t .events) (t .«event_count») (t .states) (t .«state_count») (t .cells) (t .«cell_count») r ⌝ }
 {
     let messages = t.messages;
     let events = t.events;
@@ -133,6 +135,7 @@ fn cell_of(line: &[u8], f: Fields, t: Tables) -> CellLine
     cells::cell_line(
         line,
         f,
+        nth,
         messages,
         t.message_count,
         events,
@@ -158,12 +161,12 @@ fn read_cells(text: &[u8], from: usize, first: usize, given: Tables) -> Reading
         let f = n.fields;
         let part = &text[at..e];
         if !n.is {
-            let number = lines::misplaced::misplaced(part, f);
-            return crate::whole::refused_at(number, line);
+            let why = lines::misplaced::misplaced(part, f, line);
+            return crate::whole::refused_at(why);
         }
-        let r = cell_of(part, f, t);
-        if r.number != 0 {
-            return crate::whole::refused_at(r.number, line);
+        let r = cell_of(part, f, line, t);
+        if r.refusal.number != 0 {
+            return crate::whole::refused_at(r.refusal);
         }
         let count = t.cell_count;
         let row = r.cell;

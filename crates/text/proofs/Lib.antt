@@ -3,4 +3,5 @@ pub mod Lines
 pub mod FieldLaws
 pub mod NameLaws
 pub mod Written
+pub mod Found
 pub mod Determined

@@ -3,3 +3,4 @@ pub mod Fields
 pub mod Name
 pub mod Words
 pub mod Written
+pub mod Line

@@ -35,13 +35,13 @@ judged-requires-2 : tie.Need-judged-requires-2
 judged-requires-2 c κs = search needs
 
 returns : tie.Need-returns
-returns c = misshapen (c .before .before .before .before .before .args .line .now) (c .before .before .before .before .before .args .messages) (c .before .before .before .before .before .args .message-count) (c .before .before .before .before .before .args .events) (c .before .before .before .before .before .args .event-count) (c .before .before .before .before .before .args .states) (c .before .before .before .before .before .args .state-count) (c .before .before .before .before .before .args .cells) (c .before .before .before .before .before .args .count) (c .before .before .before .before .before .pre .1) (c .refused .result) (sym (c .before .enum-told .given .1) ∙ c .before .before .before .shape-of .ensures) (c .refused .ensures)
+returns c = misshapen (c .before .before .before .before .before .args .nth) (c .before .before .before .before .before .args .line .now) (c .before .before .before .before .before .args .messages) (c .before .before .before .before .before .args .message-count) (c .before .before .before .before .before .args .events) (c .before .before .before .before .before .args .event-count) (c .before .before .before .before .before .args .states) (c .before .before .before .before .before .args .state-count) (c .before .before .before .before .before .args .cells) (c .before .before .before .before .before .args .count) (c .before .before .before .before .before .pre .1) (c .refused .result) (sym (c .before .enum-told .given .1) ∙ c .before .before .before .shape-of .ensures) (c .refused .ensures)
 
 returns-2 : tie.Need-returns-2
-returns-2 c = judged-told (c .before .before .before .before .before .before .before .args .line .now) (c .before .before .before .before .before .before .before .args .messages) (c .before .before .before .before .before .before .before .args .message-count) (c .before .before .before .before .before .before .before .args .events) (c .before .before .before .before .before .before .before .args .event-count) (c .before .before .before .before .before .before .before .args .states) (c .before .before .before .before .before .before .before .args .state-count) (c .before .before .before .before .before .before .before .args .cells) (c .before .before .before .before .before .before .before .args .count) (c .before .before .before .before .before .before .before .pre .1) (c .before .stall-of .result) (c .before .stall-of .ensures) (stall-shape (split 9 (c .before .before .before .before .before .before .before .args .line .now)) (c .before .before .before .shape .given .0 .0) (sym (c .before .before .before .shape .given .1) ∙ c .before .before .before .before .before .shape-of .ensures) .shape) (c .judged .result) (c .judged .ensures)
+returns-2 c = judged-told (c .before .before .before .before .before .before .before .args .nth) (c .before .before .before .before .before .before .before .args .line .now) (c .before .before .before .before .before .before .before .args .messages) (c .before .before .before .before .before .before .before .args .message-count) (c .before .before .before .before .before .before .before .args .events) (c .before .before .before .before .before .before .before .args .event-count) (c .before .before .before .before .before .before .before .args .states) (c .before .before .before .before .before .before .before .args .state-count) (c .before .before .before .before .before .before .before .args .cells) (c .before .before .before .before .before .before .before .args .count) (c .before .before .before .before .before .before .before .pre .1) (c .before .stall-of .result) (c .before .stall-of .ensures) (stall-shape (split 9 (c .before .before .before .before .before .before .before .args .line .now)) (c .before .before .before .shape .given .0 .0) (sym (c .before .before .before .shape .given .1) ∙ c .before .before .before .before .before .shape-of .ensures) .shape) (c .judged .result) (c .judged .ensures)
 
 returns-3 : tie.Need-returns-3
-returns-3 c = judged-told (c .before .before .before .before .before .before .before .args .line .now) (c .before .before .before .before .before .before .before .args .messages) (c .before .before .before .before .before .before .before .args .message-count) (c .before .before .before .before .before .before .before .args .events) (c .before .before .before .before .before .before .before .args .event-count) (c .before .before .before .before .before .before .before .args .states) (c .before .before .before .before .before .before .before .args .state-count) (c .before .before .before .before .before .before .before .args .cells) (c .before .before .before .before .before .before .before .args .count) (c .before .before .before .before .before .before .before .pre .1) (c .before .go-of .result) (c .before .go-of .ensures) (go-shape (split 9 (c .before .before .before .before .before .before .before .args .line .now)) (c .before .before .before .shape2 .given .0 .0) (sym (c .before .before .before .shape2 .given .1) ∙ c .before .before .before .before .before .shape-of .ensures) .shape) (c .judged2 .result) (c .judged2 .ensures)
+returns-3 c = judged-told (c .before .before .before .before .before .before .before .args .nth) (c .before .before .before .before .before .before .before .args .line .now) (c .before .before .before .before .before .before .before .args .messages) (c .before .before .before .before .before .before .before .args .message-count) (c .before .before .before .before .before .before .before .args .events) (c .before .before .before .before .before .before .before .args .event-count) (c .before .before .before .before .before .before .before .args .states) (c .before .before .before .before .before .before .before .args .state-count) (c .before .before .before .before .before .before .before .args .cells) (c .before .before .before .before .before .before .before .args .count) (c .before .before .before .before .before .before .before .pre .1) (c .before .go-of .result) (c .before .go-of .ensures) (go-shape (split 9 (c .before .before .before .before .before .before .before .args .line .now)) (c .before .before .before .shape2 .given .0 .0) (sym (c .before .before .before .shape2 .given .1) ∙ c .before .before .before .before .before .shape-of .ensures) .shape) (c .judged2 .result) (c .judged2 .ensures)
 
 pub cell-line-spec : {M : Type 1} → statement M
 cell-line-spec =

@@ -27,7 +27,7 @@ use Rattle.tables.specs.declared.names.FoundState.the-variants.{At as StateAt, 
 use Rattle.tables.specs.names.Names.{messageNamed, eventNamed, stateNamed, messageAt, eventAt, stateAt, isMessage, isEvent, isState, foundMessage, foundEvent, foundState}
 use Rattle.lines.specs.Line.{messageNo, triggerOf}
 use Rattle.lines.specs.Checks.{isTrigger, isCache}
-use Rattle.lines.proofs.Found.{found-is, found-nothing}
+use Rattle.text.proofs.Found.{found-is, found-nothing}
 use Rattle.cells.specs.declared.places.FoundTrigger.{FoundTrigger}
 use Rattle.cells.specs.declared.places.FoundTrigger.the-variants.{At, Nothing}
 use Rattle.tables.specs.Given.{MessagesAre, EventsAre, StatesAre}

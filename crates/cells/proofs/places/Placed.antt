@@ -17,7 +17,8 @@ use Rattle.tables.specs.declared.names.FoundState.{FoundState}
 use Rattle.tables.specs.declared.names.FoundState.the-variants.{At as StateAt, Nothing as NoState}
 use Rattle.tables.specs.names.Names.{stateNamed, stateAt, isState, foundState}
 use Rattle.tables.proofs.names.Look.{state-at}
-use Rattle.lines.specs.Line.{Line, field, triggerOf}
+use Rattle.text.specs.Line.{Line, field}
+use Rattle.lines.specs.Line.{triggerOf}
 use Rattle.lines.specs.Checks.{isTrigger}
 use Rattle.lines.proofs.Both.{not-both}
 use Rattle.cells.specs.declared.places.FoundTrigger.{FoundTrigger}

@@ -12,14 +12,15 @@ use Rattle.tables.specs.declared.Tables.{Tables}
 use Rattle.tables.specs.Given.{Declared}
 use Rattle.tables.proofs.Given.{messages-are, states-are}
 use Rattle.tables.specs.names.Names.{stateAt, isState}
-use Rattle.lines.specs.Line.{Line, field, cellController, sentFields, cellOf}
+use Rattle.text.specs.Line.{Line, field}
+use Rattle.lines.specs.Line.{cellController, sentFields, cellOf}
 use Rattle.lines.specs.Checks.{allMessages, knownCell, inStable}
 use Rattle.cells.specs.shapes.Shape.{Goes}
 use Rattle.cells.specs.declared.places.Place.{Place}
 use Rattle.cells.specs.places.Place.{PlaceTold}
 use Rattle.cells.specs.declared.targets.Target.{Target}
 use Rattle.cells.specs.targets.Target.{TargetTold}
-use Rattle.cells.specs.declared.readings.Reading.{Reading}
+use Rattle.cells.specs.declared.readings.CellReading.{CellReading}
 use Rattle.cells.specs.readings.Known.{noReading, CellRead}
 use Rattle.cells.proofs.readings.Whole.{same-cell, unknown, parted, own}
 
@@ -35,7 +36,7 @@ module _ (f : Line) (whose : Controller)
         ∙ sym (to .known t (messages-are t messages message-count events event-count states state-count d) (states-are t messages message-count events event-count states state-count d)
         ∙ ap (λ (w : Controller). isState t w (field f 5) && allMessages t (sentFields f)) (s .is))
 
-    pub not-targeted : (r : Reading) → g .known ≡ false → r ≡ noReading → CellRead f messages message-count events event-count states state-count r
+    pub not-targeted : (r : CellReading) → g .known ≡ false → r ≡ noReading → CellRead f messages message-count events event-count states state-count r
     not-targeted r e q = unknown f whose messages message-count events event-count states state-count p at r q (λ t d. left t d ∙ e)
 
     pub going : g .known ≡ true

@@ -17,7 +17,8 @@ use Rattle.tables.specs.declared.Tables.{Tables}
 use Rattle.tables.specs.Tables.{noState}
 use Rattle.tables.specs.Given.{Declared}
 use Rattle.tables.specs.names.Names.{stateAt, isState}
-use Rattle.lines.specs.Line.{Line, field, cell, cellController, sentFields, sentOf, cellOf}
+use Rattle.text.specs.Line.{Line, field}
+use Rattle.lines.specs.Line.{cell, cellController, sentFields, sentOf, cellOf}
 use Rattle.lines.specs.Checks.{allMessages, knownCell, isStable, inStable, stallInStable}
 use Rattle.cells.specs.shapes.Shape.{Stalls}
 use Rattle.cells.specs.declared.places.Place.{Place}

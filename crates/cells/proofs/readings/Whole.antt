@@ -17,12 +17,13 @@ use Rattle.tables.specs.declared.Tables.{Tables}
 use Rattle.tables.specs.Tables.{noCell}
 use Rattle.tables.specs.Given.{Declared}
 use Rattle.tables.specs.names.Names.{stateAt, isState}
-use Rattle.lines.specs.Line.{Line, field, says, cellController, sentFields}
+use Rattle.text.specs.Line.{Line, field, says}
+use Rattle.lines.specs.Line.{cellController, sentFields}
 use Rattle.lines.specs.Checks.{isTrigger, allMessages, knownCell}
 use Rattle.lines.proofs.Both.{not-both}
 use Rattle.cells.specs.declared.places.Place.{Place}
 use Rattle.cells.specs.places.Place.{PlaceTold}
-use Rattle.cells.specs.declared.readings.Reading.{Reading}
+use Rattle.cells.specs.declared.readings.CellReading.{CellReading}
 use Rattle.cells.specs.readings.Known.{noReading, CellRead}
 
 pub same-cell : {s s′ : State} {k k′ : Trigger} {o o′ : Outcome} {l l′ : List Message} {n n′ : ℕ} → s ≡ s′ → k ≡ k′ → o ≡ o′ → l ≡ l′ → n ≡ n′
@@ -33,15 +34,15 @@ same-cell a b c d e = cc
 module _ (f : Line) (whose : Controller)
     (messages : List MessageRow) (message-count : ℕ) (events : List EventRow) (event-count : ℕ) (states : List StateRow) (state-count : ℕ)
     (p : Place) (at : PlaceTold f whose messages message-count events event-count states state-count p) where
-  abbrev Read : Reading → Type 0
+  abbrev Read : CellReading → Type 0
   Read r = CellRead f messages message-count events event-count states state-count r
 
   abbrev Decl : Tables → Type 0
   Decl t = Declared t messages message-count events event-count states state-count
 
-  pub unknown : (r : Reading) → r ≡ noReading → ((t : Tables) → Decl t → knownCell t f ≡ false) → Read r
+  pub unknown : (r : CellReading) → r ≡ noReading → ((t : Tables) → Decl t → knownCell t f ≡ false) → Read r
   unknown r z h =
-      let k : r .known ≡ false = ap (λ (x : Reading). x .known) z in
+      let k : r .known ≡ false = ap (λ (x : CellReading). x .known) z in
       record {
         known = λ t d. k ∙ sym (h t d);
         stuck = λ t d b. absurd (not-both (r .known) k b);
@@ -59,7 +60,7 @@ module _ (f : Line) (whose : Controller)
       ∙ and-assoc (isState t (cellController f) (field f 2)) (isTrigger t (cellController f) (field f 3))
       (says f 4 stallWord || (isState t (cellController f) (field f 5) && allMessages t (sentFields f))))
 
-  pub not-placed : (r : Reading) → whose ≡ cellController f → p .known ≡ false → r ≡ noReading → Read r
+  pub not-placed : (r : CellReading) → whose ≡ cellController f → p .known ≡ false → r ≡ noReading → Read r
   not-placed r is k q =
       unknown r q
       (λ t d. parted t d is
@@ -70,5 +71,5 @@ module _ (f : Line) (whose : Controller)
 
 -- ---- a line that is not read
 
-pub unread-is : (x : Cell) → x ≡ noCell → _≡_ {A = Reading} (record { known = false; stuck = false; cell = x }) noReading
+pub unread-is : (x : Cell) → x ≡ noCell → _≡_ {A = CellReading} (record { known = false; stuck = false; cell = x }) noReading
 unread-is x e = cc

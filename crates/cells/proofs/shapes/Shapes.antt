@@ -13,7 +13,8 @@ use Rattle.text.specs.Parts.{split, sameText}
 use Rattle.text.specs.Words.{stallWord, goWord}
 use Rattle.tables.specs.declared.Controller.{Controller}
 use Rattle.lines.specs.declared.words.FoundController.the-variants.{Is as IsController, Nothing as NoController}
-use Rattle.lines.specs.Line.{Line, field, says, cell, isController, cellController}
+use Rattle.text.specs.Line.{Line, field, says}
+use Rattle.lines.specs.Line.{cell, isController, cellController}
 use Rattle.lines.specs.Checks.{shaped, stallShape, goShape}
 use Rattle.lines.specs.Told.{FieldsAre}
 use Rattle.lines.specs.words.Found.{foundController}

@@ -11,7 +11,8 @@ use Rattle.tables.specs.declared.StateRow.{StateRow}
 use Rattle.tables.specs.declared.names.FoundState.{FoundState}
 use Rattle.tables.specs.declared.names.FoundState.the-variants.{At as StateAt, Nothing as NoState}
 use Rattle.tables.specs.names.Names.{stateNamed, isState, foundState}
-use Rattle.lines.specs.Line.{Line, field, sentFields, sentOf}
+use Rattle.text.specs.Line.{Line, field}
+use Rattle.lines.specs.Line.{sentFields, sentOf}
 use Rattle.lines.specs.Checks.{allMessages}
 use Rattle.lines.proofs.Both.{not-both}
 use Rattle.cells.proofs.places.Named.{state-known, state-unknown}

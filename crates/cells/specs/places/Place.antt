@@ -13,7 +13,8 @@ use Rattle.tables.specs.declared.StateRow.{StateRow}
 use Rattle.tables.specs.declared.Tables.{Tables}
 use Rattle.tables.specs.Given.{MessagesAre, EventsAre, Declared}
 use Rattle.tables.specs.names.Names.{stateAt, isState}
-use Rattle.lines.specs.Line.{Line, field, triggerOf}
+use Rattle.text.specs.Line.{Line, field}
+use Rattle.lines.specs.Line.{triggerOf}
 use Rattle.lines.specs.Checks.{isTrigger}
 use Rattle.cells.specs.declared.places.FoundTrigger.{FoundTrigger}
 use Rattle.cells.specs.declared.places.FoundTrigger.the-variants.{At, Nothing}

@@ -9,18 +9,19 @@ use Rattle.tables.specs.declared.StateRow.{StateRow}
 use Rattle.tables.specs.declared.Tables.{Tables}
 use Rattle.tables.specs.Tables.{noCell}
 use Rattle.tables.specs.Given.{Declared}
-use Rattle.lines.specs.Line.{Line, cell, cellOf}
+use Rattle.text.specs.Line.{Line}
+use Rattle.lines.specs.Line.{cell, cellOf}
 use Rattle.lines.specs.Checks.{knownCell, stallInStable}
-use Rattle.cells.specs.declared.readings.Reading.{Reading}
+use Rattle.cells.specs.declared.readings.CellReading.{CellReading}
 
 -- The answer where something is not known.
-abbrev pub noReading : Reading
+abbrev pub noReading : CellReading
 noReading = record { known = false; stuck = false; cell = noCell }
 
 pub record CellRead
     (f : Line)
     (messages : List MessageRow) (message-count : ℕ) (events : List EventRow) (event-count : ℕ) (states : List StateRow) (state-count : ℕ)
-    (r : Reading)
+    (r : CellReading)
     : Type 0 where
   pub known : (t : Tables) → Declared t messages message-count events event-count states state-count → r .known ≡ knownCell t f
   pub stuck : (t : Tables) → Declared t messages message-count events event-count states state-count → r .known ≡ true

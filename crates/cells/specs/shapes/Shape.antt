@@ -5,7 +5,8 @@ use mathlib.Core.Bool.{true, false, cond}
 use lib.ListN.{length}
 use Rattle.text.specs.Words.{stallWord}
 use Rattle.tables.specs.declared.Controller.{Controller}
-use Rattle.lines.specs.Line.{Line, field, says, cell, isController, cellController}
+use Rattle.text.specs.Line.{Line, field, says}
+use Rattle.lines.specs.Line.{cell, isController, cellController}
 use Rattle.lines.specs.Checks.{shaped, stallShape, goShape}
 use Rattle.cells.specs.declared.shapes.Shape.{Shape}
 use Rattle.cells.specs.declared.shapes.Shape.the-variants.{Stall, Go, Wrong}

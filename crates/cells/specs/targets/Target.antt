@@ -11,7 +11,8 @@ use Rattle.tables.specs.declared.StateRow.{StateRow}
 use Rattle.tables.specs.declared.Tables.{Tables}
 use Rattle.tables.specs.Given.{MessagesAre, StatesAre}
 use Rattle.tables.specs.names.Names.{stateAt, isState}
-use Rattle.lines.specs.Line.{Line, field, messageNo, sentFields, sentOf}
+use Rattle.text.specs.Line.{Line, field}
+use Rattle.lines.specs.Line.{messageNo, sentFields, sentOf}
 use Rattle.lines.specs.Checks.{allMessages}
 use Rattle.cells.specs.declared.targets.Sent.{Sent}
 use Rattle.cells.specs.declared.targets.Target.{Target}

@@ -11,15 +11,17 @@ use Rattle.text.specs.Parts.{split, firstIndex}
 use Rattle.text.specs.Name.{nameRule, nameOf}
 use Rattle.text.specs.Words.{eventWord}
 use Rattle.text.specs.declared.Name.{Name}
+use Rattle.papers.specs.Checks.{refusal, none}
 use Rattle.tables.specs.declared.MessageRow.{MessageRow}
 use Rattle.tables.specs.declared.EventRow.{EventRow}
 use Rattle.tables.specs.declared.Tables.{Tables}
 use Rattle.tables.specs.Tables.{noEvent}
 use Rattle.tables.specs.names.Names.{eventNamed, eventAt, isEvent}
-use Rattle.lines.specs.Line.{Line, field, says, event, eventOf}
+use Rattle.text.specs.Line.{Line, field, says}
+use Rattle.lines.specs.Line.{event, eventOf}
 use Rattle.lines.specs.Checks.{shaped}
 use Rattle.lines.specs.Told.{Refuses}
-use Rattle.lines.proofs.Numbers.{lineNumber, refuses}
+use Rattle.lines.proofs.Numbers.{tells, tells-some, numbered, lineNumber, refuses}
 use Rattle.lines.proofs.Sections.{an-event}
 use Rattle.declarations.proofs.named_fields.Declares.{fourOf, declares}
 use Rattle.declarations.specs.named_fields.Known.{messageDeclared}
@@ -71,16 +73,16 @@ module _ (f : Line) where
 
 -- ---- what is told
 
-module _ (line : List ℕ) (messages : List MessageRow) (many : ℕ) (events : List EventRow) (count : ℕ) (first : says (split 9 line) 0 eventWord ≡ true) (r : EventLine) where
-  event-told : (n : ℕ) → n ≡ eventNumber (split 9 line) messages many events count → r .number ≡ n
-      → (t : Tables) → MessagesEvents t messages many events count → Refuses t line (r .number)
+module _ (k : ℕ) (line : List ℕ) (messages : List MessageRow) (many : ℕ) (events : List EventRow) (count : ℕ) (first : says (split 9 line) 0 eventWord ≡ true) (r : EventLine) where
+  event-told : (n : ℕ) → n ≡ eventNumber (split 9 line) messages many events count → r .refusal ≡ tells n k
+      → (t : Tables) → MessagesEvents t messages many events count → Refuses t k line (r .refusal)
   event-told n e q t o =
-      refuses line t event (r .number) (an-event (split 9 line) first) (event-number t (split 9 line) messages many events count o ∙ sym e ∙ sym q)
+      refuses line t event n k (an-event (split 9 line) first) (event-number t (split 9 line) messages many events count o ∙ sym e) ∙ sym q
 
-  pub event-refused : (n : ℕ) → (n ≡ 0 → ⊥) → n ≡ eventNumber (split 9 line) messages many events count → (r .number ≡ n) × (r .row ≡ noEvent)
-      → EventTold line messages many events count r
-  event-refused n h e q = record { told = event-told n e (q .0); row = λ z. absurd (h (sym (q .0) ∙ z)); cleared = λ z. q .1 }
+  pub event-refused : (n : ℕ) → (n ≡ 0 → ⊥) → n ≡ eventNumber (split 9 line) messages many events count → (r .refusal ≡ refusal n k) × (r .row ≡ noEvent)
+      → EventTold k line messages many events count r
+  event-refused n h e q = record { told = event-told n e (q .0 ∙ sym (tells-some n k h)); row = λ z. absurd (h (sym (numbered (q .0)) ∙ z)); cleared = λ z. q .1 }
 
-  pub event-taken : 0 ≡ eventNumber (split 9 line) messages many events count → r .number ≡ 0 → r .row ≡ eventOf (split 9 line)
-      → EventTold line messages many events count r
-  event-taken e q s = record { told = event-told 0 e q; row = λ z. s; cleared = λ z. absurd (z q) }
+  pub event-taken : 0 ≡ eventNumber (split 9 line) messages many events count → r .refusal ≡ none → r .row ≡ eventOf (split 9 line)
+      → EventTold k line messages many events count r
+  event-taken e q s = record { told = event-told 0 e q; row = λ z. s; cleared = λ z. absurd (z (numbered q)) }

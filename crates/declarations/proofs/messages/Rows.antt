@@ -10,15 +10,17 @@ use Rattle.text.specs.Parts.{split}
 use Rattle.text.specs.Name.{nameRule, nameOf}
 use Rattle.text.specs.Words.{messageWord}
 use Rattle.text.specs.declared.Name.{Name}
+use Rattle.papers.specs.Checks.{refusal, none}
 use Rattle.tables.specs.declared.Kind.{Kind}
 use Rattle.tables.specs.declared.MessageRow.{MessageRow}
 use Rattle.tables.specs.declared.Tables.{Tables}
 use Rattle.tables.specs.Tables.{noMessage}
 use Rattle.tables.specs.names.Names.{eventAt, isEvent}
-use Rattle.lines.specs.Line.{Line, field, says, message, kindOf, messageOf}
+use Rattle.text.specs.Line.{Line, field, says}
+use Rattle.lines.specs.Line.{message, kindOf, messageOf}
 use Rattle.lines.specs.Checks.{shaped}
 use Rattle.lines.specs.Told.{Refuses}
-use Rattle.lines.proofs.Numbers.{lineNumber, refuses}
+use Rattle.lines.proofs.Numbers.{tells, tells-some, numbered, lineNumber, refuses}
 use Rattle.lines.proofs.Sections.{a-message}
 use Rattle.declarations.proofs.named_fields.Declares.{fourOf, declares}
 use Rattle.declarations.specs.named_fields.Known.{messageDeclared}
@@ -53,17 +55,17 @@ module _ (f : Line) where
 
 -- ---- what is told
 
-module _ (line : List ℕ) (messages : List MessageRow) (count : ℕ) (first : says (split 9 line) 0 messageWord ≡ true) (r : MessageLine) where
-  message-told : (n : ℕ) → n ≡ messageNumber (split 9 line) messages count → r .number ≡ n → (t : Tables) → OnlyMessages t messages count → Refuses t line (r .number)
+module _ (k : ℕ) (line : List ℕ) (messages : List MessageRow) (count : ℕ) (first : says (split 9 line) 0 messageWord ≡ true) (r : MessageLine) where
+  message-told : (n : ℕ) → n ≡ messageNumber (split 9 line) messages count → r .refusal ≡ tells n k → (t : Tables) → OnlyMessages t messages count → Refuses t k line (r .refusal)
   message-told n e q t o =
-      refuses line t message (r .number) (a-message (split 9 line) first) (message-number t (split 9 line) messages count o ∙ sym e ∙ sym q)
+      refuses line t message n k (a-message (split 9 line) first) (message-number t (split 9 line) messages count o ∙ sym e) ∙ sym q
 
   -- refused with a number
-  pub message-refused : (n : ℕ) → (n ≡ 0 → ⊥) → n ≡ messageNumber (split 9 line) messages count → (r .number ≡ n) × (r .row ≡ noMessage)
-      → MessageTold line messages count r
-  message-refused n h e q = record { told = message-told n e (q .0); row = λ z. absurd (h (sym (q .0) ∙ z)); cleared = λ z. q .1 }
+  pub message-refused : (n : ℕ) → (n ≡ 0 → ⊥) → n ≡ messageNumber (split 9 line) messages count → (r .refusal ≡ refusal n k) × (r .row ≡ noMessage)
+      → MessageTold k line messages count r
+  message-refused n h e q = record { told = message-told n e (q .0 ∙ sym (tells-some n k h)); row = λ z. absurd (h (sym (numbered (q .0)) ∙ z)); cleared = λ z. q .1 }
 
   -- taken
-  pub message-taken : 0 ≡ messageNumber (split 9 line) messages count → r .number ≡ 0 → r .row ≡ messageOf (split 9 line)
-      → MessageTold line messages count r
-  message-taken e q s = record { told = message-told 0 e q; row = λ z. s; cleared = λ z. absurd (z q) }
+  pub message-taken : 0 ≡ messageNumber (split 9 line) messages count → r .refusal ≡ none → r .row ≡ messageOf (split 9 line)
+      → MessageTold k line messages count r
+  message-taken e q s = record { told = message-told 0 e q; row = λ z. s; cleared = λ z. absurd (z (numbered q)) }

@@ -11,7 +11,8 @@ use Rattle.tables.specs.declared.EventRow.{EventRow}
 use Rattle.tables.specs.declared.StateRow.{StateRow}
 use Rattle.tables.specs.declared.Tables.{Tables}
 use Rattle.tables.specs.Tables.{noCell}
-use Rattle.lines.specs.Line.{Line, Section}
+use Rattle.text.specs.Line.{Line}
+use Rattle.lines.specs.Line.{Section}
 use Rattle.lines.specs.Checks.{shaped, laterRead, badName, twice, full}
 use Rattle.lines.proofs.Numbers.{eightOf}
 

@@ -11,16 +11,18 @@ use Rattle.text.specs.Parts.{split, firstIndex}
 use Rattle.text.specs.Name.{nameRule, nameOf}
 use Rattle.text.specs.Words.{stateWord}
 use Rattle.text.specs.declared.Name.{Name}
+use Rattle.papers.specs.Checks.{refusal, none}
 use Rattle.tables.specs.declared.Controller.{Controller}
 use Rattle.tables.specs.declared.Stability.{Stability}
 use Rattle.tables.specs.declared.StateRow.{StateRow}
 use Rattle.tables.specs.declared.Tables.{Tables}
 use Rattle.tables.specs.Tables.{noState}
 use Rattle.tables.specs.names.Names.{stateNamed, stateAt, isState}
-use Rattle.lines.specs.Line.{Line, field, says, state, controllerOf, stabilityOf, stateOf}
+use Rattle.text.specs.Line.{Line, field, says}
+use Rattle.lines.specs.Line.{state, controllerOf, stabilityOf, stateOf}
 use Rattle.lines.specs.Checks.{shaped}
 use Rattle.lines.specs.Told.{Refuses}
-use Rattle.lines.proofs.Numbers.{lineNumber, refuses}
+use Rattle.lines.proofs.Numbers.{tells, tells-some, numbered, lineNumber, refuses}
 use Rattle.lines.proofs.Sections.{a-state}
 use Rattle.declarations.proofs.named_fields.Declares.{fourOf, declares}
 use Rattle.declarations.specs.declared.states.StateLine.{StateLine}
@@ -57,15 +59,15 @@ module _ (f : Line) where
 
 -- ---- what is told
 
-module _ (line : List ℕ) (states : List StateRow) (count : ℕ) (first : says (split 9 line) 0 stateWord ≡ true) (r : StateLine) where
-  state-told : (n : ℕ) → n ≡ stateNumber (split 9 line) states count → r .number ≡ n → (t : Tables) → States t states count → Refuses t line (r .number)
+module _ (k : ℕ) (line : List ℕ) (states : List StateRow) (count : ℕ) (first : says (split 9 line) 0 stateWord ≡ true) (r : StateLine) where
+  state-told : (n : ℕ) → n ≡ stateNumber (split 9 line) states count → r .refusal ≡ tells n k → (t : Tables) → States t states count → Refuses t k line (r .refusal)
   state-told n e q t o =
-      refuses line t state (r .number) (a-state (split 9 line) first) (state-number t (split 9 line) states count o ∙ sym e ∙ sym q)
+      refuses line t state n k (a-state (split 9 line) first) (state-number t (split 9 line) states count o ∙ sym e) ∙ sym q
 
-  pub state-refused : (n : ℕ) → (n ≡ 0 → ⊥) → n ≡ stateNumber (split 9 line) states count → (r .number ≡ n) × (r .row ≡ noState)
-      → StateTold line states count r
-  state-refused n h e q = record { told = state-told n e (q .0); row = λ z. absurd (h (sym (q .0) ∙ z)); cleared = λ z. q .1 }
+  pub state-refused : (n : ℕ) → (n ≡ 0 → ⊥) → n ≡ stateNumber (split 9 line) states count → (r .refusal ≡ refusal n k) × (r .row ≡ noState)
+      → StateTold k line states count r
+  state-refused n h e q = record { told = state-told n e (q .0 ∙ sym (tells-some n k h)); row = λ z. absurd (h (sym (numbered (q .0)) ∙ z)); cleared = λ z. q .1 }
 
-  pub state-taken : 0 ≡ stateNumber (split 9 line) states count → r .number ≡ 0 → r .row ≡ stateOf (split 9 line)
-      → StateTold line states count r
-  state-taken e q s = record { told = state-told 0 e q; row = λ z. s; cleared = λ z. absurd (z q) }
+  pub state-taken : 0 ≡ stateNumber (split 9 line) states count → r .refusal ≡ none → r .row ≡ stateOf (split 9 line)
+      → StateTold k line states count r
+  state-taken e q s = record { told = state-told 0 e q; row = λ z. s; cleared = λ z. absurd (z (numbered q)) }

@@ -19,7 +19,8 @@ pub record MessagesEvents (t : Tables) (messages : List MessageRow) (message-cou
   pub no-state : t .«state_count» ≡ 0
   pub no-cell : t .«cell_count» ≡ 0
 
-pub record EventTold (line : List ℕ) (messages : List MessageRow) (message-count : ℕ) (events : List EventRow) (count : ℕ) (r : EventLine) : Type 0 where
-  pub told : (t : Tables) → MessagesEvents t messages message-count events count → Refuses t line (r .number)
-  pub row : r .number ≡ 0 → r .row ≡ eventOf (split 9 line)
-  pub cleared : ¬ (r .number ≡ 0) → r .row ≡ noEvent
+-- Of line k.
+pub record EventTold (k : ℕ) (line : List ℕ) (messages : List MessageRow) (message-count : ℕ) (events : List EventRow) (count : ℕ) (r : EventLine) : Type 0 where
+  pub told : (t : Tables) → MessagesEvents t messages message-count events count → Refuses t k line (r .refusal)
+  pub row : r .refusal .number ≡ 0 → r .row ≡ eventOf (split 9 line)
+  pub cleared : ¬ (r .refusal .number ≡ 0) → r .row ≡ noEvent

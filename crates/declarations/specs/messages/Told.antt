@@ -17,7 +17,8 @@ pub record OnlyMessages (t : Tables) (messages : List MessageRow) (count : ℕ) 
   pub no-state : t .«state_count» ≡ 0
   pub no-cell : t .«cell_count» ≡ 0
 
-pub record MessageTold (line : List ℕ) (messages : List MessageRow) (count : ℕ) (r : MessageLine) : Type 0 where
-  pub told : (t : Tables) → OnlyMessages t messages count → Refuses t line (r .number)
-  pub row : r .number ≡ 0 → r .row ≡ messageOf (split 9 line)
-  pub cleared : ¬ (r .number ≡ 0) → r .row ≡ noMessage
+-- Of line k.
+pub record MessageTold (k : ℕ) (line : List ℕ) (messages : List MessageRow) (count : ℕ) (r : MessageLine) : Type 0 where
+  pub told : (t : Tables) → OnlyMessages t messages count → Refuses t k line (r .refusal)
+  pub row : r .refusal .number ≡ 0 → r .row ≡ messageOf (split 9 line)
+  pub cleared : ¬ (r .refusal .number ≡ 0) → r .row ≡ noMessage

@@ -15,7 +15,8 @@ pub record States (t : Tables) (states : List StateRow) (count : ℕ) : Type 0 w
   pub many : t .«state_count» ≡ count
   pub no-cell : t .«cell_count» ≡ 0
 
-pub record StateTold (line : List ℕ) (states : List StateRow) (count : ℕ) (r : StateLine) : Type 0 where
-  pub told : (t : Tables) → States t states count → Refuses t line (r .number)
-  pub row : r .number ≡ 0 → r .row ≡ stateOf (split 9 line)
-  pub cleared : ¬ (r .number ≡ 0) → r .row ≡ noState
+-- Of line k.
+pub record StateTold (k : ℕ) (line : List ℕ) (states : List StateRow) (count : ℕ) (r : StateLine) : Type 0 where
+  pub told : (t : Tables) → States t states count → Refuses t k line (r .refusal)
+  pub row : r .refusal .number ≡ 0 → r .row ≡ stateOf (split 9 line)
+  pub cleared : ¬ (r .refusal .number ≡ 0) → r .row ≡ noState

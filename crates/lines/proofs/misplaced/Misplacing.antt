@@ -3,12 +3,16 @@ use Prim.Native.Nat.{ℕ}
 use mathlib.Core.Path.{_≡_, refl, sym, ap, _∙_}
 use mathlib.Core.Bool.{Bool, true, false, not, cond}
 use mathlib.Core.List.{List}
+use native.Mathlib.Omega.{arith}
 use Rattle.text.specs.Parts.{split}
+use Rattle.papers.specs.declared.Refusal.{Refusal}
+use Rattle.papers.specs.Checks.{refusal}
 use Rattle.tables.specs.declared.Tables.{Tables}
-use Rattle.lines.specs.Line.{Line, Section, unknown, sectionOf}
+use Rattle.text.specs.Line.{Line}
+use Rattle.lines.specs.Line.{Section, unknown, sectionOf}
 use Rattle.lines.specs.Checks.{shaped, laterRead, badName, notKnown, twice, full, stallInStable, conflict}
-use Rattle.lines.specs.misplaced.Place.{misplacedNumber, Misplaced}
-use Rattle.lines.proofs.Numbers.{eightOf, lineNumber, refuses}
+use Rattle.lines.specs.misplaced.Place.{Misplaced}
+use Rattle.lines.proofs.Numbers.{tells, eightOf, lineNumber, refuses}
 
 turned : (b : Bool) → _≡_ {A = ℕ} (cond (not b) 4 5) (cond b 5 4)
 turned true = refl
@@ -24,23 +28,22 @@ pub unknown-number : (t : Tables) (f : Line) → lineNumber unknown t f ≡ 4
 unfolding lineNumber
 unknown-number t f = refl
 
--- the number of a line whose section is known
-pub misplaced-in : (f : Line) (s : Section) → sectionOf f ≡ s → misplacedNumber f ≡ cond (shaped s f) 5 4
-unfolding misplacedNumber
-misplaced-in f s e = ap (λ (x : Section). cond (shaped x f) 5 4) e
+told-late : (b : Bool) (k : ℕ) → tells (cond b 5 4) k ≡ refusal (cond b 5 4) k
+told-late true k = refl
+told-late false k = refl
 
-pub misplaced-told : (line : List ℕ) (n : ℕ) → n ≡ misplacedNumber (split 9 line) → Misplaced line n
-misplaced-told line n e =
+refused-late : (b : Bool) → _≡_ {A = ℕ} (cond b 5 4) 0 → ⊥
+refused-late true z = omega arith
+refused-late false z = omega arith
+
+-- from the section, and from whether the line is shaped
+pub misplaced-when : (k : ℕ) (line : List ℕ) (why : Refusal) (s : Section) (b : Bool) → sectionOf (split 9 line) ≡ s → why ≡ refusal (cond b 5 4) k → b ≡ shaped s (split 9 line)
+    → Misplaced k line why
+misplaced-when k line why s b e q r =
     let f = split 9 line in
     record {
-      is = e;
-      later = λ t h. refuses line t (sectionOf f) n refl (late-number (sectionOf f) t f h ∙ sym (misplaced-in f (sectionOf f) refl) ∙ sym e);
-      none = λ h t. refuses line t unknown n h (unknown-number t f ∙ sym (misplaced-in f unknown h) ∙ sym e);
+      some = λ z. refused-late b (sym (ap (λ (x : Refusal). x .number) q) ∙ z);
+      later = λ t h. refuses line t s (cond b 5 4) k e (late-number s t f (ap (λ (x : Section). laterRead x t) (sym e) ∙ h) ∙ ap (λ (x : Bool). cond x 5 4) (sym r)) ∙ told-late b k ∙ sym q;
+      no-section = λ h t. refuses line t unknown 4 k h (unknown-number t f)
+          ∙ sym (q ∙ ap (λ (x : Bool). refusal (cond x 5 4) k) (r ∙ ap (λ (x : Section). shaped x f) (sym e ∙ h)));
     }
-
-abbrev lateOf : Bool → ℕ
-lateOf b = cond b 5 4
-
--- the same, from the section and from whether the line is shaped
-pub misplaced-when : (line : List ℕ) (n : ℕ) (s : Section) (b : Bool) → sectionOf (split 9 line) ≡ s → n ≡ cond b 5 4 → b ≡ shaped s (split 9 line) → Misplaced line n
-misplaced-when line n s b e q r = misplaced-told line n (q ∙ ap lateOf r ∙ sym (misplaced-in (split 9 line) s e))

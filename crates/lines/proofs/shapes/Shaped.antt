@@ -16,13 +16,14 @@ use Rattle.lines.specs.declared.words.FoundKind.the-variants.{Is as IsKi
 use Rattle.lines.specs.declared.words.FoundController.the-variants.{Is as IsController, Nothing as NoController}
 use Rattle.lines.specs.declared.words.FoundStability.the-variants.{Is as IsStability, Nothing as NoStability}
 use Rattle.lines.specs.declared.shapes.StateWords.the-variants.{Are as StateAre, Nothing as NoState}
-use Rattle.lines.specs.Line.{Line, field, message, event, state, isKind, kindOf, isController, controllerOf, isStability, stabilityOf}
+use Rattle.text.specs.Line.{Line, field}
+use Rattle.lines.specs.Line.{message, event, state, isKind, kindOf, isController, controllerOf, isStability, stabilityOf}
 use Rattle.lines.specs.Checks.{shaped}
 use Rattle.lines.specs.Told.{FieldsAre}
 use Rattle.lines.specs.words.Found.{foundKind}
 use Rattle.lines.specs.words.Found.{foundController, foundStability}
 use Rattle.lines.specs.shapes.Shapes.{messageShape, stateShape}
-use Rattle.lines.proofs.Found.{found-is, found-nothing}
+use Rattle.text.proofs.Found.{found-is, found-nothing}
 use Rattle.lines.proofs.words.Words.{controller-is, controller-nothing, stability-is, stability-nothing}
 use Rattle.lines.proofs.shapes.Counts.{count-same}
 use Rattle.lines.proofs.Both.{and-left}

@@ -14,7 +14,7 @@ use Rattle.tables.specs.declared.Controller.the-variants.{Cache, Dir}
 use Rattle.tables.specs.declared.Stability.{Stability}
 use Rattle.tables.specs.declared.Stability.the-variants.{Stable, Transient}
 use Rattle.lines.specs.Line.{isController, controllerOf, isStability, stabilityOf}
-use Rattle.lines.proofs.Found.{found-is, found-nothing}
+use Rattle.text.proofs.Found.{found-is, found-nothing}
 use Rattle.lines.specs.declared.words.FoundController.the-variants.{Is as IsController, Nothing as NoController}
 use Rattle.lines.specs.declared.words.FoundStability.the-variants.{Is as IsStability, Nothing as NoStability}
 

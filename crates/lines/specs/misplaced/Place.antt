@@ -1,19 +1,18 @@
 -- How a line of an earlier section than one already read, or of none, is refused.
 use Prim.Native.Nat.{ℕ}
 use mathlib.Core.Path.{_≡_}
-use mathlib.Core.Bool.{true, cond}
+use mathlib.Core.Logic.{_≢_}
+use mathlib.Core.Bool.{true}
 use mathlib.Core.List.{List}
 use Rattle.text.specs.Parts.{split}
+use Rattle.papers.specs.declared.Refusal.{Refusal}
 use Rattle.tables.specs.declared.Tables.{Tables}
-use Rattle.lines.specs.Line.{Line, unknown, sectionOf}
-use Rattle.lines.specs.Checks.{shaped, laterRead}
+use Rattle.lines.specs.Line.{unknown, sectionOf}
+use Rattle.lines.specs.Checks.{laterRead}
 use Rattle.lines.specs.Told.{Refuses}
 
--- It is refused for its shape before it is refused for its place.
-unfoldable pub misplacedNumber : Line → ℕ
-misplacedNumber f = cond (shaped (sectionOf f) f) 5 4
-
-pub record Misplaced (line : List ℕ) (number : ℕ) : Type 0 where
-  pub is : number ≡ misplacedNumber (split 9 line)
-  pub later : (t : Tables) → laterRead (sectionOf (split 9 line)) t ≡ true → Refuses t line number
-  pub none : sectionOf (split 9 line) ≡ unknown → (t : Tables) → Refuses t line number
+-- Line k, by the checks of its section, whatever was read before it.
+pub record Misplaced (k : ℕ) (line : List ℕ) (why : Refusal) : Type 0 where
+  pub some : why .number ≢ 0
+  pub later : (t : Tables) → laterRead (sectionOf (split 9 line)) t ≡ true → Refuses t k line why
+  pub no-section : sectionOf (split 9 line) ≡ unknown → (t : Tables) → Refuses t k line why

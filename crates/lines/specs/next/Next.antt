@@ -4,7 +4,7 @@ use mathlib.Core.Path.{_≡_}
 use mathlib.Core.List.{List}
 use lib.ListN.{length}
 use Rattle.text.specs.Parts.{part, place, split}
-use Rattle.lines.specs.Line.{says}
+use Rattle.text.specs.Line.{says}
 use Rattle.lines.specs.Told.{FieldsAre}
 use Rattle.lines.specs.declared.next.NextLine.{NextLine}
 

@@ -2,7 +2,8 @@
 use mathlib.Core.Bool.{cond}
 use Rattle.lines.specs.declared.words.FoundKind.{FoundKind}
 use Rattle.lines.specs.declared.words.FoundKind.the-variants.{Is as IsKind, Nothing as NoKind}
-use Rattle.lines.specs.Line.{Line, field, message, state, kindOf, controllerOf, stabilityOf}
+use Rattle.text.specs.Line.{Line, field}
+use Rattle.lines.specs.Line.{message, state, kindOf, controllerOf, stabilityOf}
 use Rattle.lines.specs.Checks.{shaped}
 use Rattle.lines.specs.declared.shapes.StateWords.{StateWords}
 use Rattle.lines.specs.declared.shapes.StateWords.the-variants.{Are as StateAre, Nothing as NoState}

@@ -2,93 +2,105 @@
 use mathlib.Core.Path.{_≡_, refl, sym, ap, _∙_}
 use mathlib.Core.Bool.{Bool, true, false, not, _&&_}
 use mathlib.Core.List.{List, [], _∷_}
-use Prim.Native.Nat.{ℕ, _≤_, _<_}
+use Prim.Native.Nat.{ℕ, _<_}
 use native.Mathlib.Omega.{arith}
 use lib.ListN.{length, getD}
 use lib.Dec.{eqb}
-use borrow.Author.Tests.{eqb-true, lt-ltb, le-ltb}
+use borrow.Author.Tests.{eqb-true, eq-eqb, ne-eqb}
 use Rattle.text.specs.Parts.{sameText, split}
+use Rattle.text.specs.Line.{Line, field, says}
 use Rattle.text.specs.Name.{nameText}
 use Rattle.text.specs.Words.{mapWord}
 use Rattle.text.specs.Fields.{fieldsOf}
 use Rattle.text.specs.declared.Fields.{Fields}
 use Rattle.text.proofs.FieldLaws.{FieldAt}
+use Rattle.rules.specs.declared.Network.{Network}
 use Rattle.papers.specs.declared.Refusal.{Refusal}
-use Rattle.papers.specs.Checks.{check, refusal, none, pickRefusal, firstOf}
+use Rattle.papers.specs.Checks.{Check, check, refusal, none, firstOf}
 use Rattle.papers.proofs.Checks.{first-given, first-passed}
-use Rattle.papers.proofs.WholeLine.{whole-count, told-field}
+use Rattle.papers.proofs.WholeLine.{whole-count, count-whole, told-field}
 use Rattle.tables.specs.declared.MessageRow.{MessageRow}
 use Rattle.mapping.specs.declared.lines.MapLine.{MapLine}
-use Rattle.mapping.specs.networks.Networks.{networkOf}
-use Rattle.mapping.specs.lines.Shape.{Line, field, shaped}
-use Rattle.mapping.specs.lines.Line.{matches, isNetwork, lineRefusal, restChecks, mapLine}
+use Rattle.mapping.specs.networks.Networks.{networkOf, isNetwork, networkNo}
+use Rattle.mapping.specs.lines.Line.{mapShaped, matches, mapRefusal, MapTold}
 
 -- ---- the shape
 
-shaped-three : (f : Line) → shaped f ≡ true → length f ≡ 3
+module _ (l : List ℕ) where
+  pub shape-other : (fieldsOf l 0 (length l) .count ≡ 3 → ⊥) → mapShaped (split 9 l) ≡ false
+  shape-other h =
+      ap (λ (t : Bool). t && says (split 9 l) 0 mapWord) (ne-eqb (length (split 9 l)) 3 (λ q. h (whole-count l 3 (omega arith) q)))
+
+  pub shape-word : fieldsOf l 0 (length l) .count ≡ 3 → says (split 9 l) 0 mapWord ≡ mapShaped (split 9 l)
+  shape-word h =
+      sym (ap (λ (t : Bool). t && says (split 9 l) 0 mapWord) (eq-eqb (length (split 9 l)) 3 (count-whole l 3 (omega arith) h)))
+
+shaped-three : (f : Line) → mapShaped f ≡ true → length f ≡ 3
 shaped-three f e = go (eqb (length f) 3) refl
   where
     go : (t : Bool) → eqb (length f) 3 ≡ t → length f ≡ 3
     go true q = eqb-true (length f) 3 q
-    go false q = absurd (let z : _≡_ {A = Bool} false true = ap (λ (t : Bool). t && sameText (field f 0) mapWord) (sym q) ∙ e in let k : _≡_ {A = ℕ} 0 1 = cc in omega arith)
+    go false q = absurd (let z : _≡_ {A = Bool} false true = ap (λ (t : Bool). t && says f 0 mapWord) (sym q) ∙ e in let k : _≡_ {A = ℕ} 0 1 = cc in omega arith)
 
-shape-count : (l : List ℕ) → shaped (split 9 l) ≡ true → fieldsOf l 0 (length l) .count ≡ 3
+shape-count : (l : List ℕ) → mapShaped (split 9 l) ≡ true → fieldsOf l 0 (length l) .count ≡ 3
 shape-count l h = whole-count l 3 (omega arith) (shaped-three (split 9 l) h)
 
 -- where its fields stand
-pub map-field : (l : List ℕ) (r : Fields) (i : ℕ) → shaped (split 9 l) ≡ true → r ≡ fieldsOf l 0 (length l) → i < 3
+pub map-field : (l : List ℕ) (r : Fields) (i : ℕ) → mapShaped (split 9 l) ≡ true → r ≡ fieldsOf l 0 (length l) → i < 3
     → FieldAt l 0 (length l) (getD (r .from) i 0) (getD (r .to) i 0) (field (split 9 l) i)
 map-field l r i h e k = told-field l r i e (omega (arith, ap (λ (s : Fields). s .count) e, shape-count l h))
 
--- ---- what a shaped line gives
-
-line : {m m′ n n′ : ℕ} → m ≡ m′ → n ≡ n′ → _≡_ {A = MapLine} (record { number = m; network = n }) (record { number = m′; network = n′ })
-line p q = cc
-
-module _ (m : MessageRow) (f : Line) (n : ℕ) (e : n ≡ networkOf (field f 2)) where
-  pub gives-unmatched : sameText (nameText (m .name)) (field f 1) ≡ false → record { number = 14; network = n } ≡ mapLine m f
-  unfolding mapLine
-  gives-unmatched q =
-      line (sym (ap (λ (r : Refusal). r .number) (first-given (check 14 0 (not (matches (m ∷ []) (field f 1)))) (check 15 0 (not (isNetwork (field f 2))) ∷ []) (ap not q)))) e
-
-  pub gives-no-network : sameText (nameText (m .name)) (field f 1) ≡ true → 31 < n → record { number = 15; network = n } ≡ mapLine m f
-  unfolding mapLine
-  gives-no-network q h =
-      line
-      (sym (ap (λ (r : Refusal). r .number) (first-passed (check 14 0 (not (matches (m ∷ []) (field f 1)))) (check 15 0 (not (isNetwork (field f 2))) ∷ []) (ap not q)
-      ∙ first-given (check 15 0 (not (isNetwork (field f 2)))) [] (ap not (le-ltb (networkOf (field f 2)) 32 (omega arith)))))) e
-
-  pub gives-network : sameText (nameText (m .name)) (field f 1) ≡ true → n ≤ 31 → record { number = 0; network = n } ≡ mapLine m f
-  unfolding mapLine firstOf
-  gives-network q h =
-      line
-      (sym (ap (λ (r : Refusal). r .number) (first-passed (check 14 0 (not (matches (m ∷ []) (field f 1)))) (check 15 0 (not (isNetwork (field f 2))) ∷ []) (ap not q)
-      ∙ first-passed (check 15 0 (not (isNetwork (field f 2)))) [] (ap not (lt-ltb (networkOf (field f 2)) 32 (omega arith)))))) e
-
 -- ---- the first of a line's checks
 
--- The refusal of this number at a line, where it is one.
-abbrev pub refusalAt : ℕ → ℕ → Refusal
-refusalAt k n = pickRefusal (eqb n 0) none (refusal n k)
-
-two-checks : (k : ℕ) (a b : Bool) → firstOf (check 14 k a ∷ check 15 k b ∷ []) ≡ refusalAt k (firstOf (check 14 0 a ∷ check 15 0 b ∷ []) .number)
-unfolding firstOf
-two-checks k true b = refl
-two-checks k false true = refl
-two-checks k false false = refl
-
 module _ (k : ℕ) (f : Line) where
-  pub line-shape : (next : List MessageRow) → shaped f ≡ false → lineRefusal next k f ≡ refusal 4 k
-  unfolding lineRefusal
-  line-shape next e = first-given (check 4 k (not (shaped f))) (restChecks next k f) (ap not e)
+  abbrev shape : Check
+  shape = check 4 k (not (mapShaped f))
 
-  line-rest : (next : List MessageRow) → shaped f ≡ true → lineRefusal next k f ≡ firstOf (restChecks next k f)
-  unfolding lineRefusal
-  line-rest next e = first-passed (check 4 k (not (shaped f))) (restChecks next k f) (ap not e)
+  abbrev match : List MessageRow → Check
+  match next = check 14 k (not (matches next (field f 1)))
 
-  pub line-many : shaped f ≡ true → lineRefusal [] k f ≡ refusal 14 k
-  line-many e = line-rest [] e ∙ first-given (check 14 k true) (check 15 k (not (isNetwork (field f 2))) ∷ []) refl
+  abbrev network : Check
+  network = check 15 k (not (isNetwork (field f 2)))
 
-  pub line-gives : (m : MessageRow) (next : List MessageRow) → shaped f ≡ true → lineRefusal (m ∷ next) k f ≡ refusalAt k (mapLine m f .number)
-  unfolding mapLine
-  line-gives m next e = line-rest (m ∷ next) e ∙ two-checks k (not (sameText (nameText (m .name)) (field f 1))) (not (isNetwork (field f 2)))
+  pub line-shape : (next : List MessageRow) → mapShaped f ≡ false → mapRefusal next k f ≡ refusal 4 k
+  unfolding mapRefusal
+  line-shape next e = first-given shape (match next ∷ network ∷ []) (ap not e)
+
+  module _ (s : mapShaped f ≡ true) where
+    pub line-many : mapRefusal [] k f ≡ refusal 14 k
+    unfolding mapRefusal
+    line-many = first-passed shape (match [] ∷ network ∷ []) (ap not s) ∙ first-given (match []) (network ∷ []) refl
+
+    module _ (m : MessageRow) where
+      pub line-unmatched : sameText (nameText (m .name)) (field f 1) ≡ false → mapRefusal (m ∷ []) k f ≡ refusal 14 k
+      unfolding mapRefusal
+      line-unmatched q = first-passed shape (match (m ∷ []) ∷ network ∷ []) (ap not s) ∙ first-given (match (m ∷ [])) (network ∷ []) (ap not q)
+
+      module _ (q : sameText (nameText (m .name)) (field f 1) ≡ true) where
+        pub line-no-network : isNetwork (field f 2) ≡ false → mapRefusal (m ∷ []) k f ≡ refusal 15 k
+        unfolding mapRefusal
+        line-no-network e =
+            first-passed shape (match (m ∷ []) ∷ network ∷ []) (ap not s) ∙ first-passed (match (m ∷ [])) (network ∷ []) (ap not q)
+            ∙ first-given network [] (ap not e)
+
+        pub line-passes : isNetwork (field f 2) ≡ true → mapRefusal (m ∷ []) k f ≡ none
+        unfolding mapRefusal firstOf
+        line-passes e =
+            first-passed shape (match (m ∷ []) ∷ network ∷ []) (ap not s) ∙ first-passed (match (m ∷ [])) (network ∷ []) (ap not q)
+            ∙ first-passed network [] (ap not e)
+
+  -- only the next message is asked for
+  pub line-next : (m : MessageRow) (next : List MessageRow) → mapRefusal (m ∷ next) k f ≡ mapRefusal (m ∷ []) k f
+  unfolding mapRefusal
+  line-next m next = refl
+
+-- ---- what a line gives
+
+module _ (k : ℕ) (m : MessageRow) (f : Line) (r : MapLine) where
+  -- it is refused
+  pub gives-none : (n : ℕ) → (n ≡ 0 → ⊥) → mapRefusal (m ∷ []) k f ≡ refusal n k → r .refusal ≡ refusal n k → MapTold k m f r
+  gives-none n h e q = record { told = q ∙ sym e; network = λ z. absurd (h (sym (ap (λ (x : Refusal). x .number) q) ∙ z)) }
+
+  -- it gives its network
+  pub gives-network : mapRefusal (m ∷ []) k f ≡ none → r .refusal ≡ none → r .network ≡ networkNo (networkOf (field f 2)) → MapTold k m f r
+  gives-network e q n = record { told = q ∙ sym e; network = λ z. n }

@@ -1,6 +1,8 @@
-use Prim.Native.Nat.{ℕ, _+_, _-_}
-use mathlib.Core.Path.{_≡_, sym, ap, _∙_, subst}
-use mathlib.Core.List.{[]}
+-- `mapping::map_lines` meets its contract.
+use Prim.Native.Nat.{ℕ, _+_, _-_, _<_, _≤_}
+use mathlib.Core.Path.{_≡_, refl, sym, ap, _∙_, subst}
+use mathlib.Core.Bool.{true}
+use mathlib.Core.List.{[], _∷_}
 use lib.ListN.{length, getD, set}
 use native.Mathlib.Omega.{arith}
 use borrow.Author.Needs.{needs}
@@ -8,11 +10,8 @@ use borrow.Author.Tests.{not-true, not-false}
 use Rattle.text.specs.Parts.{part, place, split}
 use Rattle.tables.specs.declared.MessageRow.{MessageRow}
 use Rattle.tables.specs.declared.Kind.the-variants.{Req}
-use Rattle.mapping.specs.declared.lines.MapLine.{MapLine}
-use Rattle.mapping.specs.Reading.{networkNo}
-use Rattle.mapping.specs.lines.Shape.{shaped}
-use Rattle.mapping.specs.lines.Line.{mapLine}
-use Rattle.mapping.proofs.ReadLaws.{Going, network-told, going-first, line-within, going-shape, going-many, going-refused, going-more, going-short, going-done}
+use Rattle.mapping.specs.lines.Line.{mapShaped, MapTold}
+use Rattle.mapping.proofs.ReadLaws.{Going, going-first, line-within, going-shape, going-many, going-refused, going-more, going-short, going-done}
 use Rattle.mapping.proofs.map_lines.Statement.{statement}
 use Rattle.mapping.proofs.map_lines.Tie as tie
 
@@ -30,106 +29,139 @@ gone = record { name = record { bytes = []; length = 0 }; kind = Req }
 long : (c : tie.Start Inv-loop μ-loop) → length (c .args .t3) ≡ 32
 long c = search needs
 
+-- the line that was found ends within the text
+found : (c : tie.After-find Inv-loop μ-loop) → (c .before .before .loop .at ≤ c .find .result) × (c .find .result < length (c .before .before .before .before .args .text .now))
+found c =
+    let a = c .before .before .before .before .args in
+    let l = c .before .before .loop in
+    let w = line-within gone (a .text .now) (a .from) (a .t3) (a .count) (l .at) (l .i) (l .networks) (l .inv) (c .before .loop-test .taken) in
+    (omega (arith, w .0, c .find .ensures), omega (arith, w .1, c .find .ensures))
+
+-- whether it is shaped
+shape : (c : tie.After-is-map Inv-loop μ-loop)
+    → c .is-map .result ≡ mapShaped (split 9 (part (c .before .before .before .before .before .before .args .text .now) (c .before .before .before .before .loop .at) (place 10 (c .before .before .before .before .before .before .args .text .now) (c .before .before .before .before .loop .at) (length (c .before .before .before .before .before .before .args .text .now)))))
+shape c = c .is-map .ensures ∙ ap (λ (e : ℕ). mapShaped (split 9 (part (c .before .before .before .before .before .before .args .text .now) (c .before .before .before .before .loop .at) e))) (c .before .before .find .ensures)
+
+-- what it gives, where it is the turn of a message
+told : (c : tie.After-map-line Inv-loop μ-loop)
+    → MapTold (c .before .before .before .before .before .before .before .before .before .loop .i + 2) (getD (c .before .before .before .before .before .before .before .before .before .before .before .args .t3) (c .before .before .before .before .before .before .before .before .before .loop .i) gone) (split 9 (part (c .before .before .before .before .before .before .before .before .before .before .before .args .text .now) (c .before .before .before .before .before .before .before .before .before .loop .at) (place 10 (c .before .before .before .before .before .before .before .before .before .before .before .args .text .now) (c .before .before .before .before .before .before .before .before .before .loop .at) (length (c .before .before .before .before .before .before .before .before .before .before .before .args .text .now))))) (c .map-line .result)
+told c =
+    subst (λ (e : ℕ). MapTold (c .before .before .before .before .before .before .before .before .before .loop .i + 2) (getD (c .before .before .before .before .before .before .before .before .before .before .before .args .t3) (c .before .before .before .before .before .before .before .before .before .loop .i) gone) (split 9 (part (c .before .before .before .before .before .before .before .before .before .before .before .args .text .now) (c .before .before .before .before .before .before .before .before .before .loop .at) e)) (c .map-line .result))
+    (c .before .before .before .before .before .before .before .find .ensures) (c .map-line .ensures)
+
 loop-holds : tie.Need-loop-holds Inv-loop μ-loop
 loop-holds c = going-first gone (c .before .args .text .now) (c .before .args .from) (c .before .args .t3) (c .before .args .count) (c .before .pre .0)
 
 find-requires : tie.Need-find-requires Inv-loop μ-loop
 find-requires c κs = (c .before .loop .inv .left .within, omega arith)
 
+add-nth : tie.Need-add-nth Inv-loop μ-loop
+add-nth c = omega (arith, c .before .before .loop .inv .few, c .before .before .before .before .pre .1)
+
 sub-is-map : tie.Need-sub-is-map Inv-loop μ-loop
-sub-is-map c = omega (arith, line-within gone (c .before .before .before .before .args .text .now) (c .before .before .before .before .args .from) (c .before .before .before .before .args .t3) (c .before .before .before .before .args .count) (c .before .before .loop .at) (c .before .before .loop .i) (c .before .before .loop .networks) (c .before .before .loop .inv) (c .before .loop-test .taken), c .find .ensures)
+sub-is-map c = found c .0
 
 part-is-map-start : tie.Need-part-is-map-start Inv-loop μ-loop
-part-is-map-start c = omega (arith, line-within gone (c .before .before .before .before .args .text .now) (c .before .before .before .before .args .from) (c .before .before .before .before .args .t3) (c .before .before .before .before .args .count) (c .before .before .loop .at) (c .before .before .loop .i) (c .before .before .loop .networks) (c .before .before .loop .inv) (c .before .loop-test .taken), c .find .ensures)
+part-is-map-start c = omega (arith, found c .0, found c .1)
 
 part-is-map-end : tie.Need-part-is-map-end Inv-loop μ-loop
-part-is-map-end c = omega (arith, line-within gone (c .before .before .before .before .args .text .now) (c .before .before .before .before .args .from) (c .before .before .before .before .args .t3) (c .before .before .before .before .args .count) (c .before .before .loop .at) (c .before .before .loop .i) (c .before .before .loop .networks) (c .before .before .loop .inv) (c .before .loop-test .taken), c .find .ensures)
+part-is-map-end c = omega (arith, found c .0, found c .1)
 
 is-map-requires : tie.Need-is-map-requires Inv-loop μ-loop
 is-map-requires c κs = search needs
-
-add-refuse : tie.Need-add-refuse Inv-loop μ-loop
-add-refuse c = omega (arith, c .before .before .before .before .before .loop .inv .few, c .before .before .before .before .before .before .before .pre .1)
 
 refuse-requires : tie.Need-refuse-requires Inv-loop μ-loop
 refuse-requires c κs = search needs
 
 returns : tie.Need-returns Inv-loop μ-loop
-returns c = c .refuse .ensures ∙ going-shape gone (c .before .before .before .before .before .before .before .before .args .text .now) (c .before .before .before .before .before .before .before .before .args .from) (c .before .before .before .before .before .before .before .before .args .t3) (c .before .before .before .before .before .before .before .before .args .count) (c .before .before .before .before .before .before .loop .at) (c .before .before .before .before .before .before .loop .i) (c .before .before .before .before .before .before .loop .networks) (c .before .before .before .before .before .before .loop .inv) (c .before .before .before .before .before .loop-test .taken) (ap (λ (e : ℕ). shaped (split 9 (part (c .before .before .before .before .before .before .before .before .args .text .now) (c .before .before .before .before .before .before .loop .at) e))) (sym (c .before .before .before .before .find .ensures))
-    ∙ sym (c .before .before .is-map .ensures) ∙ not-true (c .before .before .is-map .result) (c .before .if1 .taken))
-
-add-refuse-2 : tie.Need-add-refuse-2 Inv-loop μ-loop
-add-refuse-2 c = omega (arith, c .before .before .before .before .before .before .loop .inv .few, c .before .before .before .before .before .before .before .before .pre .1)
+returns c =
+    let a = c .before .before .before .before .before .before .before .before .args in
+    let l = c .before .before .before .before .before .before .loop in
+    c .refuse .ensures
+    ∙ going-shape gone (a .text .now) (a .from) (a .t3) (a .count) (l .at) (l .i) (l .networks) (l .inv) (c .before .before .before .before .before .loop-test .taken)
+    (sym (shape (c .before .before)) ∙ not-true (c .before .before .is-map .result) (c .before .if1 .taken))
 
 refuse-requires-2 : tie.Need-refuse-requires-2 Inv-loop μ-loop
 refuse-requires-2 c κs = search needs
 
 returns-2 : tie.Need-returns-2 Inv-loop μ-loop
-returns-2 c = c .refuse2 .ensures ∙ going-many gone (c .before .before .before .before .before .before .before .before .before .args .text .now) (c .before .before .before .before .before .before .before .before .before .args .from) (c .before .before .before .before .before .before .before .before .before .args .t3) (c .before .before .before .before .before .before .before .before .before .args .count) (c .before .before .before .before .before .before .before .loop .at) (c .before .before .before .before .before .before .before .loop .i) (c .before .before .before .before .before .before .before .loop .networks) (c .before .before .before .before .before .before .before .loop .inv) (c .before .before .before .before .before .before .loop-test .taken) (ap (λ (e : ℕ). shaped (split 9 (part (c .before .before .before .before .before .before .before .before .before .args .text .now) (c .before .before .before .before .before .before .before .loop .at) e))) (sym (c .before .before .before .before .before .find .ensures))
-    ∙ sym (c .before .before .before .is-map .ensures) ∙ not-false (c .before .before .before .is-map .result) (c .before .before .if1 .left)) (c .before .before .before .before .before .before .before .before .before .pre .1) (long (c .before .before .before .before .before .before .before .before .before)) (c .before .if2 .taken)
+returns-2 c =
+    let a = c .before .before .before .before .before .before .before .before .before .args in
+    let l = c .before .before .before .before .before .before .before .loop in
+    c .refuse2 .ensures
+    ∙ going-many gone (a .text .now) (a .from) (a .t3) (a .count) (l .at) (l .i) (l .networks) (l .inv) (c .before .before .before .before .before .before .loop-test .taken)
+    (sym (shape (c .before .before .before)) ∙ not-false (c .before .before .before .is-map .result) (c .before .before .if1 .left)) (c .before .before .before .before .before .before .before .before .before .pre .1) (long (c .before .before .before .before .before .before .before .before .before)) (c .before .if2 .taken)
 
 mul-row : tie.Need-mul-row Inv-loop μ-loop
 mul-row c = omega (arith, c .before .before .before .before .before .before .loop .inv .few, c .before .before .before .before .before .before .before .before .pre .1)
 
 array-copy-out-row : tie.Need-array-copy-out-row Inv-loop μ-loop
-array-copy-out-row c = omega (arith, c .before .before .before .before .before .before .loop .inv .few, c .before .before .before .before .before .before .before .before .pre .1)
+array-copy-out-row c = omega (arith, c .before .before .before .before .before .before .loop .inv .few, c .before .before .before .before .before .before .before .before .pre .1, c .if2 .left, long (c .before .before .before .before .before .before .before .before))
 
 sub-map-line : tie.Need-sub-map-line Inv-loop μ-loop
-sub-map-line c = omega (arith, line-within gone (c .before .before .before .before .before .before .before .before .before .args .text .now) (c .before .before .before .before .before .before .before .before .before .args .from) (c .before .before .before .before .before .before .before .before .before .args .t3) (c .before .before .before .before .before .before .before .before .before .args .count) (c .before .before .before .before .before .before .before .loop .at) (c .before .before .before .before .before .before .before .loop .i) (c .before .before .before .before .before .before .before .loop .networks) (c .before .before .before .before .before .before .before .loop .inv) (c .before .before .before .before .before .before .loop-test .taken), c .before .before .before .before .before .find .ensures)
+sub-map-line c = found (c .before .before .before .before .before) .0
 
 part-map-line-start : tie.Need-part-map-line-start Inv-loop μ-loop
-part-map-line-start c = omega (arith, line-within gone (c .before .before .before .before .before .before .before .before .before .args .text .now) (c .before .before .before .before .before .before .before .before .before .args .from) (c .before .before .before .before .before .before .before .before .before .args .t3) (c .before .before .before .before .before .before .before .before .before .args .count) (c .before .before .before .before .before .before .before .loop .at) (c .before .before .before .before .before .before .before .loop .i) (c .before .before .before .before .before .before .before .loop .networks) (c .before .before .before .before .before .before .before .loop .inv) (c .before .before .before .before .before .before .loop-test .taken), c .before .before .before .before .before .find .ensures)
+part-map-line-start c = omega (arith, found (c .before .before .before .before .before) .0, found (c .before .before .before .before .before) .1)
 
 part-map-line-end : tie.Need-part-map-line-end Inv-loop μ-loop
-part-map-line-end c = omega (arith, line-within gone (c .before .before .before .before .before .before .before .before .before .args .text .now) (c .before .before .before .before .before .before .before .before .before .args .from) (c .before .before .before .before .before .before .before .before .before .args .t3) (c .before .before .before .before .before .before .before .before .before .args .count) (c .before .before .before .before .before .before .before .loop .at) (c .before .before .before .before .before .before .before .loop .i) (c .before .before .before .before .before .before .before .loop .networks) (c .before .before .before .before .before .before .before .loop .inv) (c .before .before .before .before .before .before .loop-test .taken), c .before .before .before .before .before .find .ensures)
+part-map-line-end c = omega (arith, found (c .before .before .before .before .before) .0, found (c .before .before .before .before .before) .1)
 
 map-line-requires : tie.Need-map-line-requires Inv-loop μ-loop
 map-line-requires c κs = sym (c .before .before .before .before .is-map .ensures) ∙ not-false (c .before .before .before .before .is-map .result) (c .before .before .before .if1 .left)
-
-add-refuse-3 : tie.Need-add-refuse-3 Inv-loop μ-loop
-add-refuse-3 c = omega (arith, c .before .before .before .before .before .before .before .before .before .before .loop .inv .few, c .before .before .before .before .before .before .before .before .before .before .before .before .pre .1)
 
 refuse-requires-3 : tie.Need-refuse-requires-3 Inv-loop μ-loop
 refuse-requires-3 c κs = search needs
 
 returns-3 : tie.Need-returns-3 Inv-loop μ-loop
 returns-3 c =
+    let a = c .before .before .before .before .before .before .before .before .before .before .before .before .before .before .args in
+    let l = c .before .before .before .before .before .before .before .before .before .before .before .before .loop in
+    let m = c .before .before .before .map-line in
     c .refuse3 .ensures
-    ∙ going-refused gone (c .before .before .before .before .before .before .before .before .before .before .before .before .before .args .text .now) (c .before .before .before .before .before .before .before .before .before .before .before .before .before .args .from) (c .before .before .before .before .before .before .before .before .before .before .before .before .before .args .t3) (c .before .before .before .before .before .before .before .before .before .before .before .before .before .args .count) (c .before .before .before .before .before .before .before .before .before .before .before .loop .at) (c .before .before .before .before .before .before .before .before .before .before .before .loop .i) (c .before .before .before .before .before .before .before .before .before .before .before .loop .networks) (c .before .before .before .before .before .before .before .before .before .before .before .loop .inv) (c .before .before .before .before .before .before .before .before .before .before .loop-test .taken) (ap (λ (e : ℕ). shaped (split 9 (part (c .before .before .before .before .before .before .before .before .before .before .before .before .before .args .text .now) (c .before .before .before .before .before .before .before .before .before .before .before .loop .at) e))) (sym (c .before .before .before .before .before .before .before .before .before .find .ensures))
-    ∙ sym (c .before .before .before .before .before .before .before .is-map .ensures) ∙ not-false (c .before .before .before .before .before .before .before .is-map .result) (c .before .before .before .before .before .before .if1 .left)) (c .before .before .before .before .before .before .before .before .before .before .before .before .before .pre .1) (long (c .before .before .before .before .before .before .before .before .before .before .before .before .before)) (omega (arith, c .before .before .before .before .before .before .before .before .before .before .before .loop .inv .few, c .before .before .before .before .before .if2 .left)) (c .before .before .map-line .result .number)
-    (ap (λ (m : MapLine). m .number) (c .before .before .map-line .ensures ∙ ap (λ (e : ℕ). mapLine (getD (c .before .before .before .before .before .before .before .before .before .before .before .before .before .args .t3) (c .before .before .before .before .before .before .before .before .before .before .before .loop .i) gone) (split 9 (part (c .before .before .before .before .before .before .before .before .before .before .before .before .before .args .text .now) (c .before .before .before .before .before .before .before .before .before .before .before .loop .at) e))) (c .before .before .before .before .before .before .before .before .before .find .ensures))) (c .before .if3 .taken)
+    ∙ going-refused gone (a .text .now) (a .from) (a .t3) (a .count) (l .at) (l .i) (l .networks) (l .inv) (c .before .before .before .before .before .before .before .before .before .before .before .loop-test .taken)
+    (sym (shape (c .before .before .before .before .before .before .before .before)) ∙ not-false (c .before .before .before .before .before .before .before .before .is-map .result) (c .before .before .before .before .before .before .before .if1 .left)) (c .before .before .before .before .before .before .before .before .before .before .before .before .before .before .pre .1) (long (c .before .before .before .before .before .before .before .before .before .before .before .before .before .before)) (omega (arith, l .inv .few, c .before .before .before .before .before .before .if2 .left))
+    (m .result .refusal) (told (c .before .before .before) .told) (c .before .if3 .taken)
 
 array-set-from-networks : tie.Need-array-set-from-networks Inv-loop μ-loop
-array-set-from-networks c = omega (arith, c .before .before .before .before .before .before .before .before .before .before .loop .inv .few, c .before .before .before .before .before .before .before .before .before .before .before .before .pre .1)
+array-set-from-networks c = omega (arith, c .before .before .before .before .before .before .before .before .before .before .before .before .loop .inv .few, c .before .before .before .before .before .before .before .before .before .before .before .before .before .before .pre .1, c .before .before .before .before .before .before .if2 .left)
 
 add-at : tie.Need-add-at Inv-loop μ-loop
-add-at c = omega (arith, line-within gone (c .before .before .before .before .before .before .before .before .before .before .before .before .args .text .now) (c .before .before .before .before .before .before .before .before .before .before .before .before .args .from) (c .before .before .before .before .before .before .before .before .before .before .before .before .args .t3) (c .before .before .before .before .before .before .before .before .before .before .before .before .args .count) (c .before .before .before .before .before .before .before .before .before .before .loop .at) (c .before .before .before .before .before .before .before .before .before .before .loop .i) (c .before .before .before .before .before .before .before .before .before .before .loop .networks) (c .before .before .before .before .before .before .before .before .before .before .loop .inv) (c .before .before .before .before .before .before .before .before .before .loop-test .taken), c .before .before .before .before .before .before .before .before .find .ensures)
+add-at c = omega (arith, found (c .before .before .before .before .before .before .before .before .before .before) .1)
 
 add-i : tie.Need-add-i Inv-loop μ-loop
-add-i c = omega (arith, c .before .before .before .before .before .before .before .before .before .before .loop .inv .few, c .before .before .before .before .before .before .before .before .before .before .before .before .pre .1)
+add-i c = omega (arith, c .before .before .before .before .before .before .before .before .before .before .before .before .loop .inv .few, c .before .before .before .before .before .before .before .before .before .before .before .before .before .before .pre .1)
 
 loop-less : tie.Need-loop-less Inv-loop μ-loop
-loop-less c = omega (arith, line-within gone (c .before .before .before .before .before .before .before .before .before .before .before .before .args .text .now) (c .before .before .before .before .before .before .before .before .before .before .before .before .args .from) (c .before .before .before .before .before .before .before .before .before .before .before .before .args .t3) (c .before .before .before .before .before .before .before .before .before .before .before .before .args .count) (c .before .before .before .before .before .before .before .before .before .before .loop .at) (c .before .before .before .before .before .before .before .before .before .before .loop .i) (c .before .before .before .before .before .before .before .before .before .before .loop .networks) (c .before .before .before .before .before .before .before .before .before .before .loop .inv) (c .before .before .before .before .before .before .before .before .before .loop-test .taken), c .before .before .before .before .before .before .before .before .find .ensures)
+loop-less c = omega (arith, found (c .before .before .before .before .before .before .before .before .before .before) .0, found (c .before .before .before .before .before .before .before .before .before .before) .1)
 
 loop-again : tie.Need-loop-again Inv-loop μ-loop
 loop-again c =
-    subst (λ (e : ℕ). Going (c .before .before .before .before .before .before .before .before .before .before .before .before .args .text .now) (c .before .before .before .before .before .before .before .before .before .before .before .before .args .from) (c .before .before .before .before .before .before .before .before .before .before .before .before .args .t3) (c .before .before .before .before .before .before .before .before .before .before .before .before .args .count) (e + 1) (c .before .before .before .before .before .before .before .before .before .before .loop .i + 1) (set (c .before .before .before .before .before .before .before .before .before .before .loop .networks) (c .before .before .before .before .before .before .before .before .before .before .loop .i) (networkNo (c .before .map-line .result .network)))) (sym (c .before .before .before .before .before .before .before .before .find .ensures))
-    (going-more gone (c .before .before .before .before .before .before .before .before .before .before .before .before .args .text .now) (c .before .before .before .before .before .before .before .before .before .before .before .before .args .from) (c .before .before .before .before .before .before .before .before .before .before .before .before .args .t3) (c .before .before .before .before .before .before .before .before .before .before .before .before .args .count) (c .before .before .before .before .before .before .before .before .before .before .loop .at) (c .before .before .before .before .before .before .before .before .before .before .loop .i) (c .before .before .before .before .before .before .before .before .before .before .loop .networks) (c .before .before .before .before .before .before .before .before .before .before .loop .inv) (c .before .before .before .before .before .before .before .before .before .loop-test .taken) (ap (λ (e : ℕ). shaped (split 9 (part (c .before .before .before .before .before .before .before .before .before .before .before .before .args .text .now) (c .before .before .before .before .before .before .before .before .before .before .loop .at) e))) (sym (c .before .before .before .before .before .before .before .before .find .ensures))
-    ∙ sym (c .before .before .before .before .before .before .is-map .ensures) ∙ not-false (c .before .before .before .before .before .before .is-map .result) (c .before .before .before .before .before .if1 .left)) (c .before .before .before .before .before .before .before .before .before .before .before .before .pre .1) (long (c .before .before .before .before .before .before .before .before .before .before .before .before)) (omega (arith, c .before .before .before .before .before .before .before .before .before .before .loop .inv .few, c .before .before .before .before .if2 .left)) (c .before .map-line .result .network)
-    (sym (ap (λ (m : MapLine). m .number) (c .before .map-line .ensures ∙ ap (λ (e : ℕ). mapLine (getD (c .before .before .before .before .before .before .before .before .before .before .before .before .args .t3) (c .before .before .before .before .before .before .before .before .before .before .loop .i) gone) (split 9 (part (c .before .before .before .before .before .before .before .before .before .before .before .before .args .text .now) (c .before .before .before .before .before .before .before .before .before .before .loop .at) e))) (c .before .before .before .before .before .before .before .before .find .ensures))) ∙ c .if3 .left)
-    (network-told (getD (c .before .before .before .before .before .before .before .before .before .before .before .before .args .t3) (c .before .before .before .before .before .before .before .before .before .before .loop .i) gone) (split 9 (part (c .before .before .before .before .before .before .before .before .before .before .before .before .args .text .now) (c .before .before .before .before .before .before .before .before .before .before .loop .at) (place 10 (c .before .before .before .before .before .before .before .before .before .before .before .before .args .text .now) (c .before .before .before .before .before .before .before .before .before .before .loop .at) (length (c .before .before .before .before .before .before .before .before .before .before .before .before .args .text .now))))) (c .before .map-line .result) (c .before .map-line .ensures ∙ ap (λ (e : ℕ). mapLine (getD (c .before .before .before .before .before .before .before .before .before .before .before .before .args .t3) (c .before .before .before .before .before .before .before .before .before .before .loop .i) gone) (split 9 (part (c .before .before .before .before .before .before .before .before .before .before .before .before .args .text .now) (c .before .before .before .before .before .before .before .before .before .before .loop .at) e))) (c .before .before .before .before .before .before .before .before .find .ensures))))
+    let a = c .before .before .before .before .before .before .before .before .before .before .before .before .before .before .args in
+    let l = c .before .before .before .before .before .before .before .before .before .before .before .before .loop in
+    let m = c .before .before .before .map-line in
+    subst (λ (e : ℕ). Going (a .text .now) (a .from) (a .t3) (a .count) (e + 1) (l .i + 1) (set (l .networks) (l .i) (m .result .network))) (sym (c .before .before .before .before .before .before .before .before .before .before .find .ensures))
+    (going-more gone (a .text .now) (a .from) (a .t3) (a .count) (l .at) (l .i) (l .networks) (l .inv) (c .before .before .before .before .before .before .before .before .before .before .before .loop-test .taken)
+    (sym (shape (c .before .before .before .before .before .before .before .before)) ∙ not-false (c .before .before .before .before .before .before .before .before .is-map .result) (c .before .before .before .before .before .before .before .if1 .left)) (c .before .before .before .before .before .before .before .before .before .before .before .before .before .before .pre .1) (long (c .before .before .before .before .before .before .before .before .before .before .before .before .before .before)) (omega (arith, l .inv .few, c .before .before .before .before .before .before .if2 .left))
+    (m .result .refusal) (told (c .before .before .before) .told) (c .before .if3 .left) (m .result .network) (told (c .before .before .before) .network (c .before .if3 .left)))
 
-add-refuse-4 : tie.Need-add-refuse-4 Inv-loop μ-loop
-add-refuse-4 c = omega (arith, c .before .before .loop .inv .few, c .before .before .before .before .pre .1)
+add-missing : tie.Need-add-missing Inv-loop μ-loop
+add-missing c = omega (arith, c .before .before .loop .inv .few, c .before .before .before .before .pre .1)
 
 refuse-requires-4 : tie.Need-refuse-requires-4 Inv-loop μ-loop
 refuse-requires-4 c κs = search needs
 
 returns-4 : tie.Need-returns-4 Inv-loop μ-loop
-returns-4 c = c .refuse4 .ensures ∙ going-short gone (c .before .before .before .before .before .args .text .now) (c .before .before .before .before .before .args .from) (c .before .before .before .before .before .args .t3) (c .before .before .before .before .before .args .count) (c .before .before .before .loop .at) (c .before .before .before .loop .i) (c .before .before .before .loop .networks) (c .before .before .before .loop .inv) (c .before .before .loop-test .left) (omega arith) (long (c .before .before .before .before .before)) (c .before .before .before .before .before .pre .1)
+returns-4 c =
+    let a = c .before .before .before .before .before .args in
+    let l = c .before .before .before .loop in
+    c .refuse4 .ensures ∙ going-short gone (a .text .now) (a .from) (a .t3) (a .count) (l .at) (l .i) (l .networks) (l .inv) (c .before .before .loop-test .left) (omega arith) (long (c .before .before .before .before .before)) (c .before .before .before .before .before .pre .1)
 
 returns-5 : tie.Need-returns-5 Inv-loop μ-loop
-returns-5 c = going-done gone (c .before .before .before .before .args .text .now) (c .before .before .before .before .args .from) (c .before .before .before .before .args .t3) (c .before .before .before .before .args .count) (c .before .before .loop .at) (c .before .before .loop .i) (c .before .before .loop .networks) (c .before .before .loop .inv) (c .before .loop-test .left) (omega arith) (long (c .before .before .before .before)) (c .before .before .before .before .pre .1)
+returns-5 c =
+    let a = c .before .before .before .before .args in
+    let l = c .before .before .loop in
+    going-done gone (a .text .now) (a .from) (a .t3) (a .count) (l .at) (l .i) (l .networks) (l .inv) (c .before .loop-test .left) (omega arith) (long (c .before .before .before .before)) (c .before .before .before .before .pre .1)
 
 pub map-lines-spec : {M : Type 1} → statement M
 map-lines-spec =
@@ -139,14 +171,13 @@ map-lines-spec =
     μ-loop
     loop-holds
     find-requires
+    add-nth
     sub-is-map
     part-is-map-start
     part-is-map-end
     is-map-requires
-    add-refuse
     refuse-requires
     returns
-    add-refuse-2
     refuse-requires-2
     returns-2
     mul-row
@@ -155,7 +186,6 @@ map-lines-spec =
     part-map-line-start
     part-map-line-end
     map-line-requires
-    add-refuse-3
     refuse-requires-3
     returns-3
     array-set-from-networks
@@ -163,7 +193,7 @@ map-lines-spec =
     add-i
     loop-less
     loop-again
-    add-refuse-4
+    add-missing
     refuse-requires-4
     returns-4
     returns-5)

@@ -1,18 +1,21 @@
 -- Laws of the network that a field writes: one digit, or two of which the first is not 0, and at most 31.
 use mathlib.Core.Path.{_≡_, refl, sym, ap, _∙_}
-use mathlib.Core.Bool.{Bool, true, false}
+use mathlib.Core.Bool.{Bool, true, false, cond}
 use mathlib.Core.List.{List, [], _∷_, _++_}
 use mathlib.Core.Logic.{_⊎_, inl, inr, ⊎-elim}
 use Prim.Native.Nat.{ℕ, zero, suc, _+_, _-_, _*_, _/_, _%_, _≤_, _<_}
 use native.Mathlib.Omega.{arith}
 use lib.ListN.{length, getD}
 use lib.Dec.{ltb}
-use borrow.Author.Tests.{ltb-true, ltb-false}
+use borrow.Author.Tests.{lt-ltb, ltb-true, ltb-false}
+use Rattle.rules.specs.declared.Network.{Network}
 use Rattle.rules.specs.Lists.{upTo}
 use Rattle.text.specs.Written.{decimal}
 use Rattle.text.proofs.Parts.{true-same, same-false, first-at, first-none}
+use Rattle.text.proofs.Found.{found-is, found-nothing}
 use Rattle.text.proofs.Written.{decimal-small, decimal-step}
-use Rattle.mapping.specs.networks.Networks.{writtenAs, networkOf}
+use Rattle.mapping.specs.declared.networks.FoundNetwork.the-variants.{Is as IsNetwork, Nothing as NoNetwork}
+use Rattle.mapping.specs.networks.Networks.{writtenAs, networkOf, isNetwork, networkNo, foundNetwork}
 
 module _ {A : Type 0} where
   pub getD-upTo : (n i : ℕ) (f : ℕ → A) (d : A) → i < n → getD (upTo n f) i d ≡ f i
@@ -117,6 +120,26 @@ two-none a b f = network-none (a ∷ b ∷ []) (λ n h e. ⊎-elim (low n h e) (
 pub length-none : (x : List ℕ) → (length x ≡ 1 → ⊥) → (length x ≡ 2 → ⊥) → networkOf x ≡ 32
 length-none x f g =
     network-none x (λ n h e. ⊎-elim (λ (k : n < 10). f (ap length (sym e ∙ decimal-small n k))) (λ (k : 10 ≤ n). g (ap length (sym e ∙ two n k (omega arith)))) (low-or-high n))
+
+-- ---- what is found
+
+module _ (x : List ℕ) where
+  pub found-network : (n : ℕ) → networkOf x ≡ n → n < 32 → IsNetwork (networkNo n) ≡ foundNetwork x
+  unfolding foundNetwork
+  found-network n e h = sym (ap (λ (k : ℕ). cond (ltb k 32) (IsNetwork (networkNo k)) NoNetwork) e ∙ ap (λ (b : Bool). cond b (IsNetwork (networkNo n)) NoNetwork) (lt-ltb n 32 h))
+
+  pub found-none : networkOf x ≡ 32 → NoNetwork ≡ foundNetwork x
+  unfolding foundNetwork
+  found-none e = sym (ap (λ (k : ℕ). cond (ltb k 32) (IsNetwork (networkNo k)) NoNetwork) e)
+
+  -- from what was found
+  pub is-found : (n : Network) → IsNetwork n ≡ foundNetwork x → (isNetwork x ≡ true) × (n ≡ networkNo (networkOf x))
+  unfolding foundNetwork
+  is-found n e = found-is IsNetwork NoNetwork (λ a b q. cc) (λ a q. let z : _≡_ {A = ℕ} 0 1 = cc in omega arith) (isNetwork x) (networkNo (networkOf x)) n e
+
+  pub not-found : NoNetwork ≡ foundNetwork x → isNetwork x ≡ false
+  unfolding foundNetwork
+  not-found e = found-nothing IsNetwork NoNetwork (λ a b q. cc) (λ a q. let z : _≡_ {A = ℕ} 0 1 = cc in omega arith) (isNetwork x) (networkNo (networkOf x)) e
 
 -- a list by its length
 pub of-one : (x : List ℕ) → length x ≡ 1 → x ≡ getD x 0 0 ∷ []

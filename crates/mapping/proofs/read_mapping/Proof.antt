@@ -1,3 +1,4 @@
+-- `mapping::read_mapping` meets its contract.
 use Prim.Native.Nat.{ℕ, _+_}
 use mathlib.Core.Path.{sym, ap, _∙_, subst}
 use mathlib.Core.List.{[]}
@@ -8,7 +9,7 @@ use Rattle.text.specs.Words.{mappingHeader}
 use Rattle.papers.specs.declared.Refusal.{Refusal}
 use Rattle.papers.specs.Lined.{Lined}
 use Rattle.papers.proofs.OpeningLaws.{opened}
-use Rattle.mapping.specs.Reading.{refused, readMaps}
+use Rattle.mapping.specs.Reading.{mapsRefused, readMaps}
 use Rattle.mapping.proofs.ReadLaws.{reading-refused, reading-lines}
 use borrow.Author.Needs.{needs}
 use Rattle.mapping.proofs.read_mapping.Statement.{statement}
@@ -25,22 +26,22 @@ refuse-requires c κs = search needs
 
 returns : tie.Need-returns
 returns c =
-    c .refuse .ensures ∙ ap refused (c .before .before .opening .ensures)
-    ∙ sym (reading-refused (take (c .before .before .before .before .before .args .count) (c .before .before .before .before .before .args .messages)) (c .before .before .before .before .before .args .text .now) (λ q. c .before .if1 .taken (ap (λ (r : Refusal). r .number) (c .before .before .opening .ensures) ∙ q)))
+    c .refuse .ensures ∙ ap mapsRefused (c .before .before .before .opening .ensures)
+    ∙ sym (reading-refused (take (c .before .before .before .before .before .before .args .count) (c .before .before .before .before .before .before .args .messages)) (c .before .before .before .before .before .before .args .text .now) (λ q. c .before .if1 .taken (ap (λ (r : Refusal). r .number) (c .before .before .before .opening .ensures) ∙ q)))
 
 find-requires : tie.Need-find-requires
 find-requires c κs = search needs
 
 add-map-lines : tie.Need-add-map-lines
-add-map-lines c = omega (arith, opened mappingHeader (c .before .before .before .before .before .args .text .now) (sym (ap (λ (r : Refusal). r .number) (c .before .before .opening .ensures)) ∙ c .before .if1 .left) .ends, c .find .ensures)
+add-map-lines c = omega (arith, opened mappingHeader (c .before .before .before .before .before .before .args .text .now) (sym (ap (λ (r : Refusal). r .number) (c .before .before .before .opening .ensures)) ∙ c .before .if1 .left) .ends, c .find .ensures)
 
 map-lines-requires : tie.Need-map-lines-requires
-map-lines-requires c κs = (subst (λ (e : ℕ). Lined (c .before .before .before .before .before .args .text .now) (e + 1)) (sym (c .find .ensures)) (opened mappingHeader (c .before .before .before .before .before .args .text .now) (sym (ap (λ (r : Refusal). r .number) (c .before .before .opening .ensures)) ∙ c .before .if1 .left) .more), c .before .before .before .before .before .pre)
+map-lines-requires c κs = (subst (λ (e : ℕ). Lined (c .before .before .before .before .before .before .args .text .now) (e + 1)) (sym (c .find .ensures)) (opened mappingHeader (c .before .before .before .before .before .before .args .text .now) (sym (ap (λ (r : Refusal). r .number) (c .before .before .before .opening .ensures)) ∙ c .before .if1 .left) .more), c .before .before .before .before .before .before .pre)
 
 returns-2 : tie.Need-returns-2
 returns-2 c =
-    reading-lines (take (c .before .before .before .before .before .before .args .count) (c .before .before .before .before .before .before .args .messages)) (c .before .before .before .before .before .before .args .text .now) (c .map-lines .result) (sym (ap (λ (r : Refusal). r .number) (c .before .before .before .opening .ensures)) ∙ c .before .before .if1 .left)
-    (c .map-lines .ensures ∙ ap (λ (e : ℕ). readMaps 2 (lines (drop (e + 1) (c .before .before .before .before .before .before .args .text .now))) (take (c .before .before .before .before .before .before .args .count) (c .before .before .before .before .before .before .args .messages)) []) (c .before .find .ensures))
+    reading-lines (take (c .before .before .before .before .before .before .before .args .count) (c .before .before .before .before .before .before .before .args .messages)) (c .before .before .before .before .before .before .before .args .text .now) (c .map-lines .result) (sym (ap (λ (r : Refusal). r .number) (c .before .before .before .before .opening .ensures)) ∙ c .before .before .if1 .left)
+    (c .map-lines .ensures ∙ ap (λ (e : ℕ). readMaps 2 (lines (drop (e + 1) (c .before .before .before .before .before .before .before .args .text .now))) (take (c .before .before .before .before .before .before .before .args .count) (c .before .before .before .before .before .before .before .args .messages)) []) (c .before .find .ensures))
 
 pub read-mapping-spec : {M : Type 1} → statement M
 read-mapping-spec =

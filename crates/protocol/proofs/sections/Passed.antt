@@ -10,9 +10,10 @@ use Rattle.papers.specs.Checks.{firstOf}
 use Rattle.papers.proofs.Checks.{passed-by}
 use Rattle.tables.specs.declared.Tables.{Tables}
 use Rattle.text.specs.Parts.{split}
-use Rattle.lines.specs.Line.{Line, Section, sectionOf}
+use Rattle.text.specs.Line.{Line}
+use Rattle.lines.specs.Line.{Section, sectionOf}
 use Rattle.lines.specs.Checks.{shaped, laterRead, badName, notKnown, twice, full, stallInStable, conflict, sectionChecks, lineRefusal}
-use Rattle.lines.specs.Told.{tells, Refuses}
+use Rattle.lines.specs.Told.{Refuses}
 
 pub record Passed (s : Section) (t : Tables) (f : Line) : Type 0 where
   pub shape : shaped s f ≡ true
@@ -48,9 +49,6 @@ passed s t k f e =
       agrees = p11 .0;
     }
 
-pub line-passed : (t : Tables) (line : List ℕ) (n : ℕ) → Refuses t line n → n ≡ 0 → Passed (sectionOf (split 9 line)) t (split 9 line)
+pub line-passed : (t : Tables) (k : ℕ) (line : List ℕ) (why : Refusal) → Refuses t k line why → why .number ≡ 0 → Passed (sectionOf (split 9 line)) t (split 9 line)
 unfolding lineRefusal
-line-passed t line n f e = passed (sectionOf (split 9 line)) t 0 (split 9 line) (ap (λ (r : Refusal). r .number) (f 0) ∙ zero n e)
-  where
-    zero : (n : ℕ) → n ≡ 0 → tells n 0 .number ≡ 0
-    zero n e = rw e refl
+line-passed t k line why f e = passed (sectionOf (split 9 line)) t k (split 9 line) (ap (λ (r : Refusal). r .number) f ∙ e)

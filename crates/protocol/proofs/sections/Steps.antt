@@ -4,26 +4,19 @@ use mathlib.Core.Path.{_≡_, refl, _∙_}
 use mathlib.Core.List.{List}
 use native.Mathlib.Numerals.{add-one}
 use lib.ListN.{length, drop}
-use borrow.Author.Tests.{ne-eqb}
 use Rattle.text.specs.Parts.{place, split, lines}
 use Rattle.text.proofs.Lines.{lines-end}
-use Rattle.papers.specs.Checks.{refusal}
+use Rattle.papers.specs.declared.Refusal.{Refusal}
 use Rattle.papers.specs.Lined.{Lined}
 use Rattle.papers.proofs.Walk.{walk-next}
 use Rattle.tables.specs.declared.Tables.{Tables}
-use Rattle.lines.specs.Told.{tells, Refuses}
+use Rattle.lines.specs.Told.{Refuses}
 use Rattle.lines.specs.Checks.{lineRefusal}
 use Rattle.protocol.specs.declared.whole.Reading.{Reading}
 use Rattle.protocol.specs.sections.Sections.{lineAt}
 use Rattle.protocol.specs.whole.Whole.{refused, accepted, unless, wholeRefusal}
 use Rattle.protocol.specs.sections.Lines.{stored, readLines}
-
--- what is told by a number
-unless-none : (n k : ℕ) (a : Reading) → n ≡ 0 → unless (tells n k) a ≡ a
-unless-none n k a e = rw e refl
-
-unless-some : (n k : ℕ) (a : Reading) → (n ≡ 0 → ⊥) → unless (tells n k) a ≡ refused (refusal n k)
-unless-some n k a g = rw (ne-eqb n 0 g, ne-eqb n 0 g) refl
+use Rattle.protocol.proofs.whole.Unless.{unless-passed, unless-refused}
 
 module _ (text : List ℕ) (at : ℕ) (lined : Lined text at) (h : at < length text) where
   one : (t : Tables) (line : ℕ) → readLines line (lines (drop at text)) t
@@ -31,12 +24,12 @@ module _ (text : List ℕ) (at : ℕ) (lined : Lined text at) (h : at < length t
   unfolding readLines
   one t line = rw (walk-next text at lined h .first) refl
 
-  pub step-on : (t : Tables) (line n : ℕ) → Refuses t (lineAt text at) n → n ≡ 0
+  pub step-on : (t : Tables) (line : ℕ) (why : Refusal) → Refuses t line (lineAt text at) why → why .number ≡ 0
       → readLines line (lines (drop at text)) t ≡ readLines (line + 1) (lines (drop (place 10 text at (length text) + 1) text)) (stored t (split 9 (lineAt text at)))
-  step-on t line n f e = rw add-one (one t line ∙ rw (f line) (unless-none n line (readLines (suc line) (lines (drop (place 10 text at (length text) + 1) text)) (stored t (split 9 (lineAt text at)))) e))
+  step-on t line why f e = rw add-one (one t line ∙ rw f (unless-passed why (readLines (suc line) (lines (drop (place 10 text at (length text) + 1) text)) (stored t (split 9 (lineAt text at)))) e))
 
-  pub step-bad : (t : Tables) (line n : ℕ) → Refuses t (lineAt text at) n → (n ≡ 0 → ⊥) → readLines line (lines (drop at text)) t ≡ refused (refusal n line)
-  step-bad t line n f g = one t line ∙ rw (f line) (unless-some n line (readLines (suc line) (lines (drop (place 10 text at (length text) + 1) text)) (stored t (split 9 (lineAt text at)))) g)
+  pub step-bad : (t : Tables) (line : ℕ) (why : Refusal) → Refuses t line (lineAt text at) why → (why .number ≡ 0 → ⊥) → readLines line (lines (drop at text)) t ≡ refused why
+  step-bad t line why f g = one t line ∙ rw f (unless-refused why (readLines (suc line) (lines (drop (place 10 text at (length text) + 1) text)) (stored t (split 9 (lineAt text at)))) g)
 
 -- the end of the text
 pub step-end : (text : List ℕ) (at line : ℕ) (t : Tables) → length text ≤ at → readLines line (lines (drop at text)) t ≡ unless (wholeRefusal t) (accepted t)

@@ -6,7 +6,8 @@ use Rattle.tables.specs.declared.Tables.{Tables}
 use Rattle.tables.specs.Tables.{withMessage, withEvent, withState, withCell}
 use Rattle.protocol.specs.declared.whole.Reading.{Reading}
 use Rattle.protocol.specs.whole.Whole.{accepted, unless, wholeRefusal}
-use Rattle.lines.specs.Line.{Line, Section, message, event, state, cell, unknown, sectionOf, messageOf, eventOf, stateOf, cellOf}
+use Rattle.text.specs.Line.{Line}
+use Rattle.lines.specs.Line.{Section, message, event, state, cell, unknown, sectionOf, messageOf, eventOf, stateOf, cellOf}
 use Rattle.lines.specs.Checks.{lineRefusal}
 
 -- ---- a line is stored

@@ -1,32 +1,28 @@
 -- What a reading of a protocol text gives, and what is asked of the whole text.
 use Prim.Native.Nat.{ℕ, _+_}
-use mathlib.Core.Bool.{Bool, true, false, decide}
+use mathlib.Core.Bool.{Bool, true, false, decide, cond}
 use mathlib.Core.List.{List, [], _∷_}
 use lib.Dec.{eqb, ltb}
 use Rattle.rules.specs.Rules.{Cell}
 use Rattle.rules.proofs.Entry.{no-entry?}
 use Rattle.text.specs.Parts.{firstIndex}
 use Rattle.papers.specs.declared.Refusal.{Refusal}
-use Rattle.papers.specs.Checks.{Check, check, firstOf}
+use Rattle.papers.specs.Checks.{Check, check, none, firstOf}
 use Rattle.tables.specs.declared.Tables.{Tables}
 use Rattle.tables.specs.Tables.{clearedTables}
 use Rattle.tables.specs.Cells.{cellsOf}
 use Rattle.protocol.specs.declared.whole.Reading.{Reading}
 
--- "A refusal returns number, paper, line": and tables as they were cleared.
+-- "A refusal returns number, paper, line": the refusal, and tables as they were cleared.
 abbrev pub refused : Refusal → Reading
-refused r = record { number = r .number; line = r .line; tables = clearedTables }
+refused r = record { refusal = r; tables = clearedTables }
 
 abbrev pub accepted : Tables → Reading
-accepted t = record { number = 0; line = 0; tables = t }
-
-abbrev pub pickReading : Bool → Reading → Reading → Reading
-pickReading true a b = a
-pickReading false a b = b
+accepted t = record { refusal = none; tables = t }
 
 -- The answer, where nothing is refused.
 abbrev pub unless : Refusal → Reading → Reading
-unless r a = pickReading (eqb (r .number) 0) a (refused r)
+unless r a = cond (eqb (r .number) 0) a (refused r)
 
 -- ---- the whole text: 12 and 13
 

@@ -18,12 +18,13 @@ use Rattle.tables.specs.declared.MessageRow.{MessageRow}
 use Rattle.tables.specs.declared.Tables.{Tables}
 use Rattle.tables.specs.Tables.{clearedTables, storedOf, withMessage, withEvent, withState, withCell}
 use Rattle.tables.specs.Cells.{cellsOf, cellOf}
-use Rattle.lines.specs.Line.{Line, Section, message, event, state, cell, unknown, sectionOf}
+use Rattle.text.specs.Line.{Line}
+use Rattle.lines.specs.Line.{Section, message, event, state, cell, unknown, sectionOf}
 use Rattle.lines.specs.Checks.{sectionChecks, lineChecks, lineRefusal}
 use Rattle.mapping.specs.declared.Mapped.{Mapped}
 use Rattle.mapping.specs.Reading.{readMaps, readMapping, endOf, unless as unlessMapped}
 use Rattle.mapping.specs.networks.Networks.{networkOf}
-use Rattle.mapping.specs.lines.Shape.{field}
+use Rattle.text.specs.Line.{field}
 use Rattle.mapping.specs.lines.Line.{lineChecks as mapChecks, lineRefusal as mapRefusal}
 use Rattle.protocol.specs.declared.whole.Reading.{Reading}
 use Rattle.protocol.specs.sections.Lines.{readLines, storedIn, stored}

@@ -16,7 +16,8 @@ use Rattle.papers.specs.Opening.{openingOf}
 use Rattle.tables.specs.declared.MessageRow.{MessageRow}
 use Rattle.tables.specs.declared.Tables.{Tables}
 use Rattle.tables.specs.Tables.{noMessage, clearedTables, withMessage, withEvent, withState, withCell}
-use Rattle.lines.specs.Line.{Line, Section, message, event, state, cell, unknown, sectionOf, field, messageOf}
+use Rattle.text.specs.Line.{Line, field}
+use Rattle.lines.specs.Line.{Section, message, event, state, cell, unknown, sectionOf, messageOf}
 use Rattle.lines.specs.Checks.{badName, full, lineRefusal}
 use Rattle.protocol.specs.declared.whole.Reading.{Reading}
 use Rattle.protocol.specs.sections.Lines.{readLines, storedIn, stored}

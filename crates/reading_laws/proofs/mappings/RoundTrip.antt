@@ -18,7 +18,7 @@ use Rattle.papers.proofs.OpeningLaws.{opens}
 use Rattle.papers.proofs.Joined.{many-cons, many-append, split-none, split-join, lines-join, Ends, ends-join, name-lacks}
 use Rattle.tables.specs.declared.MessageRow.{MessageRow}
 use Rattle.mapping.specs.declared.lines.MapLine.{MapLine}
-use Rattle.mapping.specs.lines.Shape.{field}
+use Rattle.text.specs.Line.{field}
 use Rattle.mapping.specs.lines.Line.{lineRefusal}
 use Rattle.mapping.specs.networks.Networks.{networkOf}
 use Rattle.mapping.specs.Reading.{accepted, readMaps, readMapping}

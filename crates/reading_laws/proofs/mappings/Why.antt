@@ -21,7 +21,8 @@ use Rattle.papers.proofs.OpeningLaws.{opening-rows}
 use Rattle.tables.specs.declared.MessageRow.{MessageRow}
 use Rattle.tables.proofs.AllCells.{getD-zeros}
 use Rattle.mapping.specs.declared.Mapped.{Mapped}
-use Rattle.mapping.specs.lines.Shape.{field, shaped}
+use Rattle.text.specs.Line.{field}
+use Rattle.mapping.specs.lines.Shape.{shaped}
 use Rattle.mapping.specs.lines.Line.{matches, isNetwork, lineChecks, lineRefusal}
 use Rattle.mapping.specs.networks.Networks.{networkOf}
 use Rattle.mapping.specs.Reading.{networkNo, accepted, refused, readMaps, readMapping}

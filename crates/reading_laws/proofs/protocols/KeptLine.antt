@@ -5,7 +5,8 @@ use mathlib.Core.Path.{_≡_, sym, ap, _∙_}
 use Rattle.papers.specs.declared.Refusal.{Refusal}
 use Rattle.papers.specs.Checks.{firstOf}
 use Rattle.tables.specs.declared.Tables.{Tables}
-use Rattle.lines.specs.Line.{Line, Section, message, event, state, cell, unknown, sectionOf, messageOf, eventOf, stateOf, cellOf}
+use Rattle.text.specs.Line.{Line}
+use Rattle.lines.specs.Line.{Section, message, event, state, cell, unknown, sectionOf, messageOf, eventOf, stateOf, cellOf}
 use Rattle.lines.specs.Checks.{sectionChecks, lineRefusal}
 use Rattle.lines.proofs.Numbers.{lineNumber, section-told, tells-number}
 use Rattle.cells.proofs.InRange.{cell-of-ok}

@@ -1,7 +1,7 @@
 -- The tables of an accepted text stand for that text and no other.
 use Prim.Native.Nat.{ℕ, suc, _-_}
 use mathlib.Core.Path.{_≡_, refl, sym, ap, _∙_}
-use mathlib.Core.Bool.{Bool, true, false}
+use mathlib.Core.Bool.{Bool, true, false, cond}
 use mathlib.Core.List.{List, [], _∷_, _++_, map, append-assoc, append-nil}
 use native.Mathlib.Omega.{arith}
 use lib.ListN.{length, drop}
@@ -15,11 +15,12 @@ use Rattle.papers.specs.Opening.{openingOf}
 use Rattle.papers.proofs.OpeningLaws.{opened}
 use Rattle.tables.specs.declared.Tables.{Tables}
 use Rattle.tables.specs.Tables.{clearedTables}
-use Rattle.lines.specs.Line.{Line, sectionOf}
+use Rattle.text.specs.Line.{Line}
+use Rattle.lines.specs.Line.{sectionOf}
 use Rattle.lines.specs.Checks.{lineRefusal}
 use Rattle.lines.proofs.Numbers.{tells-number, lineNumber, refuses}
 use Rattle.protocol.specs.declared.whole.Reading.{Reading}
-use Rattle.protocol.specs.whole.Whole.{refused, accepted, unless, pickReading, wholeRefusal}
+use Rattle.protocol.specs.whole.Whole.{refused, accepted, unless, wholeRefusal}
 use Rattle.protocol.specs.sections.Lines.{stored, readLines}
 use Rattle.protocol.specs.Reading.{readProtocol}
 use Rattle.reading_laws.specs.protocols.Written.{tabbed, ended, records, protocolText, WrittenBack, ReadAgain, SameText}
@@ -33,7 +34,7 @@ use Rattle.reading_laws.proofs.protocols.WrittenRecords.{grown, sized-c
 pub unless-number : (r : Refusal) (a : Reading) → unless r a .number ≡ 0 → (r .number ≡ 0) × (unless r a ≡ a)
 unless-number r a e = go (eqb (r .number) 0) refl e
   where
-    go : (b : Bool) → eqb (r .number) 0 ≡ b → pickReading b a (refused r) .number ≡ 0 → (r .number ≡ 0) × (pickReading b a (refused r) ≡ a)
+    go : (b : Bool) → eqb (r .number) 0 ≡ b → cond b a (refused r) .number ≡ 0 → (r .number ≡ 0) × (cond b a (refused r) ≡ a)
     go true q k = (eqb-true (r .number) 0 q, refl)
     go false q k = absurd (eqb-false (r .number) 0 q k)
 

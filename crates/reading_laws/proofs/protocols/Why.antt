@@ -18,7 +18,8 @@ use Rattle.papers.proofs.Checks.{only-given, Numbered, numbered}
 use Rattle.papers.proofs.OpeningLaws.{opening-rows}
 use Rattle.tables.specs.declared.Tables.{Tables}
 use Rattle.tables.specs.Tables.{clearedTables}
-use Rattle.lines.specs.Line.{Line, sectionOf}
+use Rattle.text.specs.Line.{Line}
+use Rattle.lines.specs.Line.{sectionOf}
 use Rattle.lines.specs.Checks.{shaped, lineChecks, lineRefusal}
 use Rattle.protocol.specs.declared.whole.Reading.{Reading}
 use Rattle.protocol.specs.whole.Whole.{refused, accepted, noEntryAt, wholeChecks, wholeRefusal}

@@ -20,12 +20,13 @@ use Rattle.tables.specs.declared.Tables.{Tables}
 use Rattle.tables.specs.Tables.{noMessage, noEvent, noState}
 use Rattle.tables.specs.names.Names.{sameController, messageAt, eventAt, stateAt, isMessage, isEvent, isState}
 use Rattle.tables.proofs.names.Declared.{message-declared, event-declared, state-declared}
-use Rattle.lines.specs.Line.{Line, field, says, cell, sectionOf, isController, cellController, messageNo, triggerOf, outcomeOf, sentFields, sentOf, cellOf}
+use Rattle.text.specs.Line.{Line, field, says}
+use Rattle.lines.specs.Line.{cell, sectionOf, isController, cellController, messageNo, triggerOf, outcomeOf, sentFields, sentOf, cellOf}
 use Rattle.lines.specs.Checks.{shaped, stallShape, goShape, isCache, isTrigger, allMessages, knownCell}
 use Rattle.lines.proofs.Sections.{other-word}
 use Rattle.lines.proofs.Both.{and-left, and-right}
 use Rattle.reading_laws.specs.protocols.Written.{controllerWord, messageName, stateRow, triggerName, outcomeFields, cellFields}
-use Rattle.protocol.proofs.sections.Words.{not-in}
+use Rattle.lines.proofs.Sections.{not-in}
 use Rattle.reading_laws.proofs.protocols.WrittenFields.{first-word, controller-word}
 
 -- The tables have room for all that is counted.

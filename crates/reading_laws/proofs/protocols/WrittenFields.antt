@@ -15,11 +15,12 @@ use Rattle.text.proofs.NameLaws.{name-text}
 use Rattle.tables.specs.declared.Kind.the-variants.{Req, Fwd, Data, Ctl}
 use Rattle.tables.specs.declared.Controller.the-variants.{Cache, Dir}
 use Rattle.tables.specs.declared.Stability.the-variants.{Stable, Transient}
-use Rattle.lines.specs.Line.{Line, field, says, Section, message, event, state, sectionOf, isKind, kindOf, isController, controllerOf, isStability, stabilityOf, messageOf, eventOf, stateOf}
+use Rattle.text.specs.Line.{Line, field, says}
+use Rattle.lines.specs.Line.{Section, message, event, state, sectionOf, isKind, kindOf, isController, controllerOf, isStability, stabilityOf, messageOf, eventOf, stateOf}
 use Rattle.lines.specs.Checks.{shaped}
 use Rattle.lines.proofs.Both.{and-left, and-right}
 use Rattle.reading_laws.specs.protocols.Written.{kindWord, controllerWord, stabilityWord, messageFields, eventFields, stateFields}
-use Rattle.protocol.proofs.sections.Words.{not-in}
+use Rattle.lines.proofs.Sections.{not-in}
 
 -- ---- fixed words
 

@@ -21,7 +21,8 @@ use Rattle.tables.specs.declared.Cell.{Cell}
 use Rattle.tables.specs.declared.Tables.{Tables}
 use Rattle.tables.specs.Tables.{noMessage, noEvent, noState, noCell, clearedTables, messagesOf, eventsOf, statesOf, storedOf, withMessage, withEvent, withState, withCell}
 use Rattle.tables.proofs.Stored.{message-stored, event-stored, state-stored, cell-stored}
-use Rattle.lines.specs.Line.{Line, Section, message, event, state, cell, unknown, sectionOf, messageOf, eventOf, stateOf, cellOf}
+use Rattle.text.specs.Line.{Line}
+use Rattle.lines.specs.Line.{Section, message, event, state, cell, unknown, sectionOf, messageOf, eventOf, stateOf, cellOf}
 use Rattle.lines.specs.Checks.{knownCell}
 use Rattle.protocol.specs.sections.Lines.{storedIn}
 use Rattle.reading_laws.specs.protocols.Written.{controllerWord, stateRow, triggerName, outcomeFields, messageFields, eventFields, stateFields, cellFields, records}

@@ -10,7 +10,7 @@ use borrow.Author.Tests.{eqb-true}
 use Rattle.text.specs.Parts.{onto, split, lines}
 use Rattle.text.proofs.Lines.{split-many}
 use Rattle.papers.proofs.Joined.{Ends}
-use Rattle.lines.specs.Line.{Line}
+use Rattle.text.specs.Line.{Line}
 use Rattle.reading_laws.specs.protocols.Written.{tabs, tabbed, ended}
 
 -- ---- fields

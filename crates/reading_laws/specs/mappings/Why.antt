@@ -11,7 +11,7 @@ use Rattle.papers.specs.Opening.{openingChecks, openingOf, Opens}
 use Rattle.tables.specs.declared.MessageRow.{MessageRow}
 use Rattle.mapping.specs.declared.Mapped.{Mapped}
 use Rattle.mapping.specs.networks.Networks.{networkOf}
-use Rattle.mapping.specs.lines.Shape.{field}
+use Rattle.text.specs.Line.{field}
 use Rattle.mapping.specs.lines.Line.{lineChecks, lineRefusal}
 use Rattle.mapping.specs.Reading.{accepted, refused, readMapping}
 

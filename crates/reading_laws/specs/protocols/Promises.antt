@@ -16,7 +16,8 @@ use Rattle.tables.specs.declared.Tables.{Tables}
 use Rattle.tables.specs.Tables.{clearedTables}
 use Rattle.tables.specs.Cells.{cellsOf, relationsOfTables}
 use Rattle.tables.specs.Relations.{cellAt, FirstNoEntry}
-use Rattle.lines.specs.Line.{Line, Section, sectionOf}
+use Rattle.text.specs.Line.{Line}
+use Rattle.lines.specs.Line.{Section, sectionOf}
 use Rattle.lines.specs.Checks.{shaped, laterRead, badName, notKnown, twice, full, stallInStable, conflict, lineChecks, lineRefusal}
 use Rattle.protocol.specs.declared.whole.Reading.{Reading}
 use Rattle.protocol.specs.whole.Whole.{refused, accepted, cellLine, wholeChecks, wholeRefusal}

@@ -22,7 +22,7 @@ use Rattle.tables.specs.declared.StateRow.{StateRow}
 use Rattle.tables.specs.declared.Cell.{Cell}
 use Rattle.tables.specs.declared.Tables.{Tables}
 use Rattle.tables.specs.Tables.{noMessage, noEvent, noState, messagesOf, eventsOf, statesOf, storedOf}
-use Rattle.lines.specs.Line.{Line}
+use Rattle.text.specs.Line.{Line}
 use Rattle.protocol.specs.Reading.{readProtocol}
 
 -- ---- the fixed words

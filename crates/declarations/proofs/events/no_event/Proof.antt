@@ -1,4 +1,4 @@
--- `event_lines::no_event` meets its contract.
+-- `declarations::events::no_event` meets its contract.
 use mathlib.Core.Path.{refl}
 use borrow.Author.Needs.{needs}
 use Rattle.declarations.proofs.events.no_event.Statement.{statement}

@@ -1,4 +1,4 @@
--- `message_lines::no_message` meets its contract.
+-- `declarations::messages::no_message` meets its contract.
 use mathlib.Core.Path.{refl}
 use borrow.Author.Needs.{needs}
 use Rattle.declarations.proofs.messages.no_message.Statement.{statement}

@@ -1,4 +1,4 @@
--- `state_lines::no_state` meets its contract.
+-- `declarations::states::no_state` meets its contract.
 use mathlib.Core.Path.{refl}
 use borrow.Author.Needs.{needs}
 use Rattle.declarations.proofs.states.no_state.Statement.{statement}

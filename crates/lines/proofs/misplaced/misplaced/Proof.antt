@@ -1,4 +1,4 @@
--- `late_lines::misplaced` meets its contract.
+-- `lines::misplaced::misplaced` meets its contract.
 use mathlib.Core.Path.{refl, sym, _∙_}
 use mathlib.Core.Bool.{false}
 use Rattle.lines.specs.Line.{message, event, state, unknown}
@@ -21,7 +21,7 @@ late-requires : tie.Need-late-requires
 late-requires c κs = search needs
 
 returns : tie.Need-returns
-returns c = misplaced-when _ _ message (c .before .message-shaped .result) (a-message _ (sym (c .before .before .before .is-record .ensures) ∙ c .before .before .if1 .taken)) (c .late .ensures) (c .before .message-shaped .ensures)
+returns c = misplaced-when _ _ _ message (c .before .message-shaped .result) (a-message _ (sym (c .before .before .before .is-record .ensures) ∙ c .before .before .if1 .taken)) (c .late .ensures) (c .before .message-shaped .ensures)
 
 slice-aggregate-is-record-2 : tie.Need-slice-aggregate-is-record-2
 slice-aggregate-is-record-2 c = search needs
@@ -36,7 +36,7 @@ late-requires-2 : tie.Need-late-requires-2
 late-requires-2 c κs = search needs
 
 returns-2 : tie.Need-returns-2
-returns-2 c = misplaced-when _ _ event (c .before .event-shape .result) (an-event _ (sym (c .before .before .before .is-record2 .ensures) ∙ c .before .before .if2 .taken)) (c .late2 .ensures) (c .before .event-shape .ensures)
+returns-2 c = misplaced-when _ _ _ event (c .before .event-shape .result) (an-event _ (sym (c .before .before .before .is-record2 .ensures) ∙ c .before .before .if2 .taken)) (c .late2 .ensures) (c .before .event-shape .ensures)
 
 slice-aggregate-is-record-3 : tie.Need-slice-aggregate-is-record-3
 slice-aggregate-is-record-3 c = search needs
@@ -51,10 +51,10 @@ late-requires-3 : tie.Need-late-requires-3
 late-requires-3 c κs = search needs
 
 returns-3 : tie.Need-returns-3
-returns-3 c = misplaced-when _ _ state (c .before .state-shaped .result) (a-state _ (sym (c .before .before .before .is-record3 .ensures) ∙ c .before .before .if3 .taken)) (c .late3 .ensures) (c .before .state-shaped .ensures)
+returns-3 c = misplaced-when _ _ _ state (c .before .state-shaped .result) (a-state _ (sym (c .before .before .before .is-record3 .ensures) ∙ c .before .before .if3 .taken)) (c .late3 .ensures) (c .before .state-shaped .ensures)
 
 returns-4 : tie.Need-returns-4
-returns-4 c = misplaced-when _ _ unknown false (no-section _ (sym (c .before .before .before .before .before .before .before .is-record .ensures) ∙ c .before .before .before .before .before .before .if1 .left) (sym (c .before .before .before .before .is-record2 .ensures) ∙ c .before .before .before .if2 .left) (sym (c .before .is-record3 .ensures) ∙ c .if3 .left) (c .before .before .before .before .before .before .before .before .before .before .pre .1)) refl refl
+returns-4 c = misplaced-when _ _ _ unknown false (no-section _ (sym (c .before .before .before .before .before .before .before .is-record .ensures) ∙ c .before .before .before .before .before .before .if1 .left) (sym (c .before .before .before .before .is-record2 .ensures) ∙ c .before .before .before .if2 .left) (sym (c .before .is-record3 .ensures) ∙ c .if3 .left) (c .before .before .before .before .before .before .before .before .before .before .pre .1)) refl refl
 
 pub misplaced-spec : {M : Type 1} → statement M
 misplaced-spec =

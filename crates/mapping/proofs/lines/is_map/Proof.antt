@@ -1,3 +1,4 @@
+-- `mapping::lines::is_map` meets its contract.
 use mathlib.Core.Path.{sym, ap, _∙_}
 use Prim.Native.Nat.{ℕ}
 use mathlib.Core.List.{List}
@@ -6,7 +7,7 @@ use Rattle.text.specs.declared.Fields.{Fields}
 use Rattle.text.specs.Parts.{sameText}
 use Rattle.text.specs.Words.{mapWord}
 use Rattle.papers.proofs.WholeLine.{told-field}
-use Rattle.mapping.proofs.lines.ShapeLaws.{shape-other, shape-word}
+use Rattle.mapping.proofs.lines.LineLaws.{shape-other, shape-word}
 use borrow.Author.Needs.{needs}
 use Rattle.mapping.proofs.lines.is_map.Statement.{statement}
 use Rattle.mapping.proofs.lines.is_map.Tie as tie

@@ -1,7 +1,8 @@
+-- `mapping::networks::network_of` meets its contract.
 use mathlib.Core.Path.{sym, ap, _∙_}
 use native.Mathlib.Omega.{arith}
-use Rattle.mapping.specs.networks.Networks.{networkOf}
-use Rattle.mapping.proofs.networks.NetworkLaws.{of-one, of-two, length-none}
+use Rattle.mapping.specs.networks.Networks.{foundNetwork}
+use Rattle.mapping.proofs.networks.NetworkLaws.{of-one, of-two, length-none, found-none}
 use borrow.Author.Needs.{needs}
 use Rattle.mapping.proofs.networks.network_of.Statement.{statement}
 use Rattle.mapping.proofs.networks.network_of.Tie as tie
@@ -13,7 +14,7 @@ one-digit-requires : tie.Need-one-digit-requires
 one-digit-requires c κs = search needs
 
 returns : tie.Need-returns
-returns c = c .one-digit .ensures ∙ ap networkOf (sym (of-one (c .before .before .before .before .args .field .now) (omega arith)))
+returns c = c .one-digit .ensures ∙ ap foundNetwork (sym (of-one (c .before .before .before .before .args .field .now) (omega arith)))
 
 shared-slice-read-two-digits : tie.Need-shared-slice-read-two-digits
 shared-slice-read-two-digits c = search needs
@@ -25,10 +26,10 @@ two-digits-requires : tie.Need-two-digits-requires
 two-digits-requires c κs = search needs
 
 returns-2 : tie.Need-returns-2
-returns-2 c = c .two-digits .ensures ∙ ap networkOf (sym (of-two (c .before .before .before .before .before .before .args .field .now) (omega arith)))
+returns-2 c = c .two-digits .ensures ∙ ap foundNetwork (sym (of-two (c .before .before .before .before .before .before .args .field .now) (omega arith)))
 
 returns-3 : tie.Need-returns-3
-returns-3 c = sym (length-none (c .before .before .before .args .field .now) (c .before .if1 .left) (c .if2 .left))
+returns-3 c = found-none _ (length-none (c .before .before .before .args .field .now) (c .before .if1 .left) (c .if2 .left))
 
 pub network-of-spec : {M : Type 1} → statement M
 network-of-spec =

@@ -1,17 +1,18 @@
+-- `mapping::networks::one_digit` meets its contract.
 use mathlib.Core.Path.{sym}
 use native.Mathlib.Omega.{arith}
-use Rattle.mapping.proofs.networks.NetworkLaws.{one-found, one-none}
+use Rattle.mapping.proofs.networks.NetworkLaws.{one-found, one-none, found-network, found-none}
 use Rattle.mapping.proofs.networks.one_digit.Statement.{statement}
 use Rattle.mapping.proofs.networks.one_digit.Tie as tie
 
 returns : tie.Need-returns
-returns c = sym (one-none (c .before .args .a) (λ h k. omega arith))
+returns c = found-none _ (one-none (c .before .args .a) (λ h k. omega arith))
 
 returns-2 : tie.Need-returns-2
-returns-2 c = sym (one-none (c .before .before .args .a) (λ h k. omega arith))
+returns-2 c = found-none _ (one-none (c .before .before .args .a) (λ h k. omega arith))
 
 returns-3 : tie.Need-returns-3
-returns-3 c = sym (one-found (c .before .before .args .a) (omega arith) (omega arith))
+returns-3 c = found-network _ _ (one-found (c .before .before .args .a) (omega arith) (omega arith)) (omega arith)
 
 pub one-digit-spec : {M : Type 1} → statement M
 one-digit-spec = tie.close (tie.spec returns returns-2 returns-3)

@@ -1,4 +1,4 @@
--- `whole::finished` meets its contract.
+-- `protocol::whole::finished` meets its contract.
 use borrow.Author.Needs.{needs}
 use Rattle.protocol.proofs.whole.finished.Statement.{statement}
 use Rattle.protocol.proofs.whole.finished.Tie as tie
@@ -14,17 +14,17 @@ returns c = c .refused-at .ensures ∙ sym (no-message (c .before .before .args 
 no-entry-requires : tie.Need-no-entry-requires
 no-entry-requires c κs = search needs
 
-add-refused-at : tie.Need-add-refused-at
-add-refused-at c = search needs
+add-line : tie.Need-add-line
+add-line c = search needs
 
-add-refused-at-2 : tie.Need-add-refused-at-2
-add-refused-at-2 c = search needs
+add-line-2 : tie.Need-add-line-2
+add-line-2 c = search needs
 
-add-refused-at-3 : tie.Need-add-refused-at-3
-add-refused-at-3 c = search needs
+add-line-3 : tie.Need-add-line-3
+add-line-3 c = search needs
 
-add-refused-at-4 : tie.Need-add-refused-at-4
-add-refused-at-4 c = search needs
+add-line-4 : tie.Need-add-line-4
+add-line-4 c = search needs
 
 refused-at-requires-2 : tie.Need-refused-at-requires-2
 refused-at-requires-2 c κs = search needs
@@ -42,10 +42,10 @@ finished-spec =
     refused-at-requires
     returns
     no-entry-requires
-    add-refused-at
-    add-refused-at-2
-    add-refused-at-3
-    add-refused-at-4
+    add-line
+    add-line-2
+    add-line-3
+    add-line-4
     refused-at-requires-2
     returns-2
     returns-3)
