@@ -13,7 +13,7 @@ use Rattle.tables.specs.declared.Cell.{Cell}
 use lib.Dec.{eqb}
 use borrow.Author.Tests.{eqb-true, eqb-false}
 use Rattle.papers.specs.declared.Refusal.{Refusal}
-use Rattle.lines.proofs.Numbers.{numbered}
+use Rattle.lines.proofs.Numbers.{one-number}
 use Rattle.cells.specs.declared.CellLine.{CellLine}
 use Rattle.cells.specs.Told.{CellTold}
 
@@ -37,10 +37,10 @@ module _ (k : ℕ) (line : List ℕ)
       go true e =
           let z : r .refusal .number ≡ 0 = eqb-true (r .refusal .number) 0 e in
           p .cell (given messages message-count events event-count states state-count cells count) d z
-          ∙ sym (q .cell (given messages message-count events event-count states state-count cells count) d (sym (numbered why) ∙ z))
+          ∙ sym (q .cell (given messages message-count events event-count states state-count cells count) d (sym (one-number why) ∙ z))
       go false e =
           let z : r .refusal .number ≡ 0 → ⊥ = eqb-false (r .refusal .number) 0 e in
-          p .cleared z ∙ sym (q .cleared (λ y. z (numbered why ∙ y)))
+          p .cleared z ∙ sym (q .cleared (λ y. z (one-number why ∙ y)))
 
   one : r ≡ s
   one = same why cell

@@ -24,7 +24,7 @@ use Rattle.tables.specs.names.Names.{messageAt, eventAt, stateAt, isMessage, is
 use Rattle.text.specs.Line.{Line, field, says}
 use Rattle.lines.specs.Line.{cell, cellController, messageNo, triggerOf, outcomeOf, sentFields, sentOf, cellOf}
 use Rattle.lines.specs.Checks.{shaped, isTrigger, isCache, allMessages, knownCell, stallInStable, conflict}
-use Rattle.lines.proofs.Numbers.{tells-number, numbered, lineNumber, refuses}
+use Rattle.lines.proofs.Numbers.{tells-number, one-number, lineNumber, refuses}
 use Rattle.lines.proofs.Sections.{a-cell}
 use Rattle.lines.proofs.Both.{and-left, and-right}
 use Rattle.cells.specs.declared.CellLine.{CellLine}
@@ -140,5 +140,5 @@ cell-ok k line messages message-count events event-count states state-count cell
     let d = given-declared messages message-count events event-count states state-count cells count in
     let f = split 9 line in
     let n : lineNumber cell t f ≡ r .refusal .number =
-    sym (tells-number (lineNumber cell t f) k) ∙ numbered (sym (refuses line t cell (lineNumber cell t f) k (a-cell f first) refl) ∙ c .told t d refl refl) in
+    sym (tells-number (lineNumber cell t f) k) ∙ one-number (sym (refuses line t cell (lineNumber cell t f) k (a-cell f first) refl) ∙ c .told t d refl refl) in
     subst (λ (x : Cell). CellOk message-count event-count state-count x) (sym (c .cell t d z)) (cell-of-ok t f (n ∙ z))

@@ -10,7 +10,7 @@ use lib.ListN.{replicate}
 use Rattle.tables.specs.declared.Tables.{Tables}
 use Rattle.tables.specs.Tables.{noMessage, noEvent, noState}
 use Rattle.papers.specs.declared.Refusal.{Refusal}
-use Rattle.lines.proofs.Numbers.{numbered}
+use Rattle.lines.proofs.Numbers.{one-number}
 use Rattle.declarations.proofs.named_fields.Declares.{tablesOf, rows-same}
 use Rattle.declarations.specs.declared.messages.MessageLine.{MessageLine}
 use Rattle.declarations.specs.messages.Told.{OnlyMessages, MessageTold}
@@ -23,7 +23,7 @@ use Rattle.declarations.specs.states.Told.{States, StateTold}
 
 pub message-line-determined : (k : ℕ) (line : List ℕ) (messages : List MessageRow) (count : ℕ) → Determines (MessageTold k line messages count)
 message-line-determined k line messages count r s p q =
-    same why (rows-same (r .refusal .number) (s .refusal .number) (numbered why) (r .row) (s .row) (messageOf (split 9 line)) noMessage (p .row) (p .cleared) (q .row) (q .cleared))
+    same why (rows-same (r .refusal .number) (s .refusal .number) (one-number why) (r .row) (s .row) (messageOf (split 9 line)) noMessage (p .row) (p .cleared) (q .row) (q .cleared))
   where
     t : Tables
     t = tablesOf messages count (replicate 8 noEvent) 0 (replicate 64 noState) 0
@@ -39,7 +39,7 @@ message-line-determined k line messages count r s p q =
 
 pub event-line-determined : (k : ℕ) (line : List ℕ) (messages : List MessageRow) (many : ℕ) (events : List EventRow) (count : ℕ) → Determines (EventTold k line messages many events count)
 event-line-determined k line messages many events count r s p q =
-    same why (rows-same (r .refusal .number) (s .refusal .number) (numbered why) (r .row) (s .row) (eventOf (split 9 line)) noEvent (p .row) (p .cleared) (q .row) (q .cleared))
+    same why (rows-same (r .refusal .number) (s .refusal .number) (one-number why) (r .row) (s .row) (eventOf (split 9 line)) noEvent (p .row) (p .cleared) (q .row) (q .cleared))
   where
     t : Tables
     t = tablesOf messages many events count (replicate 64 noState) 0
@@ -55,7 +55,7 @@ event-line-determined k line messages many events count r s p q =
 
 pub state-line-determined : (k : ℕ) (line : List ℕ) (states : List StateRow) (count : ℕ) → Determines (StateTold k line states count)
 state-line-determined k line states count r s p q =
-    same why (rows-same (r .refusal .number) (s .refusal .number) (numbered why) (r .row) (s .row) (stateOf (split 9 line)) noState (p .row) (p .cleared) (q .row) (q .cleared))
+    same why (rows-same (r .refusal .number) (s .refusal .number) (one-number why) (r .row) (s .row) (stateOf (split 9 line)) noState (p .row) (p .cleared) (q .row) (q .cleared))
   where
     t : Tables
     t = tablesOf (replicate 32 noMessage) 0 (replicate 8 noEvent) 0 states count

@@ -68,42 +68,42 @@ judged-one t φ old new₁ new₂ r s v w =
     listed-determined (v .listing) old new₁ new₂ r s (v .listed) (subst (λ (l : List ℕ). Listed l old new₂ s) same (w .listed))
 
 after-one : (t : Tables) (y old new₁ new₂ : List ℕ) (r s : Answer) → AfterProtocol t y old new₁ r → AfterProtocol t y old new₂ s → (r ≡ s) × (new₁ ≡ new₂)
-after-one t y old new₁ new₂ r s c d = go (eqb (mappedFor t y .number) 0) refl
+after-one t y old new₁ new₂ r s c d = go (eqb (mappedFor t y .refusal .number) 0) refl
   where
-    go : (b : Bool) → eqb (mappedFor t y .number) 0 ≡ b → (r ≡ s) × (new₁ ≡ new₂)
+    go : (b : Bool) → eqb (mappedFor t y .refusal .number) 0 ≡ b → (r ≡ s) × (new₁ ≡ new₂)
     go true e =
-        let a = eqb-true (mappedFor t y .number) 0 e in
+        let a = eqb-true (mappedFor t y .refusal .number) 0 e in
         judged-one t (mappingOf (mappedFor t y .networks)) old new₁ new₂ r s (c .judged a) (d .judged a)
     go false e =
-        let n = eqb-false (mappedFor t y .number) 0 e in
-        refusal-determined (mappedFor t y .number) 1 (mappedFor t y .line) old new₁ new₂ r s (c .mapping-refused n) (d .mapping-refused n)
+        let n = eqb-false (mappedFor t y .refusal .number) 0 e in
+        refusal-determined (mappedFor t y .refusal .number) 1 (mappedFor t y .refusal .line) old new₁ new₂ r s (c .mapping-refused n) (d .mapping-refused n)
 
 pub judge-determined : JudgeDetermined
-judge-determined x y old new₁ new₂ r s c d = go (eqb (readProtocol x .number) 0) refl
+judge-determined x y old new₁ new₂ r s c d = go (eqb (readProtocol x .refusal .number) 0) refl
   where
-    go : (b : Bool) → eqb (readProtocol x .number) 0 ≡ b → (r ≡ s) × (new₁ ≡ new₂)
+    go : (b : Bool) → eqb (readProtocol x .refusal .number) 0 ≡ b → (r ≡ s) × (new₁ ≡ new₂)
     go true e =
-        let z = eqb-true (readProtocol x .number) 0 e in
+        let z = eqb-true (readProtocol x .refusal .number) 0 e in
         after-one (readProtocol x .tables) y old new₁ new₂ r s (c .protocol-accepted z) (d .protocol-accepted z)
     go false e =
-        let n = eqb-false (readProtocol x .number) 0 e in
-        refusal-determined (readProtocol x .number) 0 (readProtocol x .line) old new₁ new₂ r s (c .protocol-refused n) (d .protocol-refused n)
+        let n = eqb-false (readProtocol x .refusal .number) 0 e in
+        refusal-determined (readProtocol x .refusal .number) 0 (readProtocol x .refusal .line) old new₁ new₂ r s (c .protocol-refused n) (d .protocol-refused n)
 
 -- ---- What the judging program prints is determined: the count and the lent bytes.
 
 mapping-printed-one : (t : Tables) (y l m : List ℕ) → MappingPrinted t y l → MappingPrinted t y m → l ≡ m
-mapping-printed-one t y l m v w = go (eqb (mappedFor t y .number) 0) refl
+mapping-printed-one t y l m v w = go (eqb (mappedFor t y .refusal .number) 0) refl
   where
-    go : (b : Bool) → eqb (mappedFor t y .number) 0 ≡ b → l ≡ m
-    go true e = let a = eqb-true (mappedFor t y .number) 0 e in listing-one t (mappingOf (mappedFor t y .networks)) l m (v .judged a) (w .judged a)
-    go false e = let n = eqb-false (mappedFor t y .number) 0 e in v .mapping-refused n ∙ sym (w .mapping-refused n)
+    go : (b : Bool) → eqb (mappedFor t y .refusal .number) 0 ≡ b → l ≡ m
+    go true e = let a = eqb-true (mappedFor t y .refusal .number) 0 e in listing-one t (mappingOf (mappedFor t y .networks)) l m (v .judged a) (w .judged a)
+    go false e = let n = eqb-false (mappedFor t y .refusal .number) 0 e in v .mapping-refused n ∙ sym (w .mapping-refused n)
 
 pub printed-determined : PrintedDetermined
 printed-determined x y old new₁ new₂ j k v w =
-    wrote-determined (v .printed) old new₁ new₂ j k (v .wrote) (subst (λ (l : List ℕ). Wrote l old new₂ k) (same (eqb (readProtocol x .number) 0) refl) (w .wrote))
+    wrote-determined (v .printed) old new₁ new₂ j k (v .wrote) (subst (λ (l : List ℕ). Wrote l old new₂ k) (same (eqb (readProtocol x .refusal .number) 0) refl) (w .wrote))
   where
-    same : (b : Bool) → eqb (readProtocol x .number) 0 ≡ b → w .printed ≡ v .printed
+    same : (b : Bool) → eqb (readProtocol x .refusal .number) 0 ≡ b → w .printed ≡ v .printed
     same true e =
-        let z = eqb-true (readProtocol x .number) 0 e in
+        let z = eqb-true (readProtocol x .refusal .number) 0 e in
         mapping-printed-one (readProtocol x .tables) y (w .printed) (v .printed) (w .protocol-accepted z) (v .protocol-accepted z)
-    same false e = let n = eqb-false (readProtocol x .number) 0 e in w .protocol-refused n ∙ sym (v .protocol-refused n)
+    same false e = let n = eqb-false (readProtocol x .refusal .number) 0 e in w .protocol-refused n ∙ sym (v .protocol-refused n)

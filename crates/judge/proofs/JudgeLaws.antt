@@ -93,13 +93,13 @@ module _ (t : Tables) (y : List ℕ) (m : Mapped) (is : m ≡ mappedFor t y) whe
   after-refused h old r e =
       record {
         mapping-refused = λ n. record { answer = e ∙ ap (λ (z : Mapped). refusedAt (z .number) 1 (z .line)) is; bytes = refl };
-        judged = λ z. absurd (h (ap (λ (k : Mapped). k .number) is ∙ z));
+        judged = λ z. absurd (h (ap (λ (k : Mapped). k .refusal .number) is ∙ z));
       }
 
   pub after-judged : m .number ≡ 0 → (old new : List ℕ) (r : Answer) → Judged t (mappingOf (m .networks)) old new r → AfterProtocol t y old new r
   after-judged z old new r j =
       record {
-        mapping-refused = λ n. absurd (n (ap (λ (k : Mapped). k .number) (sym is) ∙ z));
+        mapping-refused = λ n. absurd (n (ap (λ (k : Mapped). k .refusal .number) (sym is) ∙ z));
         judged = λ _. subst (λ (k : Mapped). Judged t (mappingOf (k .networks)) old new r) is j;
       }
 
@@ -110,12 +110,12 @@ module _ (x y : List ℕ) (p : Reading) (is : p ≡ readProtocol x) where
   call-refused h old r e =
       record {
         protocol-refused = λ n. record { answer = e ∙ ap (λ (z : Reading). refusedAt (z .number) 0 (z .line)) is; bytes = refl };
-        protocol-accepted = λ z. absurd (h (ap (λ (k : Reading). k .number) is ∙ z));
+        protocol-accepted = λ z. absurd (h (ap (λ (k : Reading). k .refusal .number) is ∙ z));
       }
 
   pub call-accepted : p .number ≡ 0 → (old new : List ℕ) (r : Answer) → AfterProtocol (p .tables) y old new r → Call x y old new r
   call-accepted z old new r j =
       record {
-        protocol-refused = λ n. absurd (n (ap (λ (k : Reading). k .number) (sym is) ∙ z));
+        protocol-refused = λ n. absurd (n (ap (λ (k : Reading). k .refusal .number) (sym is) ∙ z));
         protocol-accepted = λ _. subst (λ (k : Reading). AfterProtocol (k .tables) y old new r) is j;
       }

@@ -59,23 +59,23 @@ judge-length x listing φ e (inr w) =
 
 -- ---- the answer
 
-after-small : (x : List ℕ) → readProtocol x .number ≡ 0 → (y old new : List ℕ) (r : Answer) → AfterProtocol (readProtocol x .tables) y old new r → Small r
-after-small x z y old new r c = go (eqb (mappedFor (readProtocol x .tables) y .number) 0) refl
+after-small : (x : List ℕ) → readProtocol x .refusal .number ≡ 0 → (y old new : List ℕ) (r : Answer) → AfterProtocol (readProtocol x .tables) y old new r → Small r
+after-small x z y old new r c = go (eqb (mappedFor (readProtocol x .tables) y .refusal .number) 0) refl
   where
-    go : (b : Bool) → eqb (mappedFor (readProtocol x .tables) y .number) 0 ≡ b → Small r
+    go : (b : Bool) → eqb (mappedFor (readProtocol x .tables) y .refusal .number) 0 ≡ b → Small r
     go true e =
-        let j = c .judged (eqb-true (mappedFor (readProtocol x .tables) y .number) 0 e) in
+        let j = c .judged (eqb-true (mappedFor (readProtocol x .tables) y .refusal .number) 0 e) in
         small-listed (j .listing) old new r (omega (arith, judge-length x (j .listing) (mappingOf (mappedFor (readProtocol x .tables) y .networks)) z (j .allowed))) (j .listed)
     go false e =
         let low = mapping-low (messagesOf (readProtocol x .tables)) y in
-        small-refused (mappedFor (readProtocol x .tables) y .number) 1 (mappedFor (readProtocol x .tables) y .line) r (low .0) (omega arith) (low .1)
-        (c .mapping-refused (eqb-false (mappedFor (readProtocol x .tables) y .number) 0 e) .answer)
+        small-refused (mappedFor (readProtocol x .tables) y .refusal .number) 1 (mappedFor (readProtocol x .tables) y .refusal .line) r (low .0) (omega arith) (low .1)
+        (c .mapping-refused (eqb-false (mappedFor (readProtocol x .tables) y .refusal .number) 0 e) .answer)
 
 pub judge-small : JudgeSmall
-judge-small x y old new r c = go (eqb (readProtocol x .number) 0) refl
+judge-small x y old new r c = go (eqb (readProtocol x .refusal .number) 0) refl
   where
-    go : (b : Bool) → eqb (readProtocol x .number) 0 ≡ b → Small r
-    go true e = let z = eqb-true (readProtocol x .number) 0 e in after-small x z y old new r (c .protocol-accepted z)
+    go : (b : Bool) → eqb (readProtocol x .refusal .number) 0 ≡ b → Small r
+    go true e = let z = eqb-true (readProtocol x .refusal .number) 0 e in after-small x z y old new r (c .protocol-accepted z)
     go false e =
         let low = protocol-low x in
-        small-refused (readProtocol x .number) 0 (readProtocol x .line) r (low .0) (omega arith) (low .1) (c .protocol-refused (eqb-false (readProtocol x .number) 0 e) .answer)
+        small-refused (readProtocol x .refusal .number) 0 (readProtocol x .refusal .line) r (low .0) (omega arith) (low .1) (c .protocol-refused (eqb-false (readProtocol x .refusal .number) 0 e) .answer)

@@ -11,7 +11,7 @@ use Rattle.judge.specs.Call.{JudgeListing, Call}
 
 abbrev pub JudgeLength : Type 0
 JudgeLength =
-    (protocol listing : List ℕ) (φ : Mapping) → readProtocol protocol .number ≡ 0 →
+    (protocol listing : List ℕ) (φ : Mapping) → readProtocol protocol .refusal .number ≡ 0 →
     JudgeListing (readProtocol protocol .tables) φ listing → length listing ≤ 2001
 
 -- So every number of an answer has its place in the packed number.

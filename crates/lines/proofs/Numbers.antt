@@ -23,8 +23,8 @@ abbrev pub tells : ℕ → ℕ → Refusal
 tells number k = cond (eqb number 0) none (refusal number k)
 
 -- refusals that are equal have one number
-pub numbered : {r s : Refusal} → r ≡ s → r .number ≡ s .number
-numbered e = ap (λ (x : Refusal). x .number) e
+pub one-number : {r s : Refusal} → r ≡ s → r .number ≡ s .number
+one-number e = ap (λ (x : Refusal). x .number) e
 
 pub tells-some : (n k : ℕ) → (n ≡ 0 → ⊥) → tells n k ≡ refusal n k
 tells-some n k h = ap (λ (b : Bool). cond b none (refusal n k)) (ne-eqb n 0 h)

@@ -45,27 +45,27 @@ listing-one t l m (inr v) (inr w) = two-one (t .messages) (relationsOfTables t) 
 -- ---- the call
 
 pub plan-determined : PlanDetermined
-plan-determined text old new₁ new₂ r s c d = go (eqb (readProtocol text .number) 0) refl
+plan-determined text old new₁ new₂ r s c d = go (eqb (readProtocol text .refusal .number) 0) refl
   where
-    go : (b : Bool) → eqb (readProtocol text .number) 0 ≡ b → (r ≡ s) × (new₁ ≡ new₂)
+    go : (b : Bool) → eqb (readProtocol text .refusal .number) 0 ≡ b → (r ≡ s) × (new₁ ≡ new₂)
     go true e =
-        let z = eqb-true (readProtocol text .number) 0 e in
+        let z = eqb-true (readProtocol text .refusal .number) 0 e in
         let v = c .planned z in
         let w = d .planned z in
         let same = listing-one (readProtocol text .tables) (w .listing) (v .listing) (w .allowed) (v .allowed) in
         listed-determined (v .listing) old new₁ new₂ r s (v .listed) (subst (λ (l : List ℕ). Listed l old new₂ s) same (w .listed))
     go false e =
-        let n = eqb-false (readProtocol text .number) 0 e in
-        refusal-determined (readProtocol text .number) 0 (readProtocol text .line) old new₁ new₂ r s (c .refused n) (d .refused n)
+        let n = eqb-false (readProtocol text .refusal .number) 0 e in
+        refusal-determined (readProtocol text .refusal .number) 0 (readProtocol text .refusal .line) old new₁ new₂ r s (c .refused n) (d .refused n)
 
 -- ---- What the planning program prints is determined: the count and the lent bytes.
 
 pub printed-determined : PrintedDetermined
 printed-determined text old new₁ new₂ j k v w =
-    wrote-determined (v .printed) old new₁ new₂ j k (v .wrote) (subst (λ (l : List ℕ). Wrote l old new₂ k) (same (eqb (readProtocol text .number) 0) refl) (w .wrote))
+    wrote-determined (v .printed) old new₁ new₂ j k (v .wrote) (subst (λ (l : List ℕ). Wrote l old new₂ k) (same (eqb (readProtocol text .refusal .number) 0) refl) (w .wrote))
   where
-    same : (b : Bool) → eqb (readProtocol text .number) 0 ≡ b → w .printed ≡ v .printed
+    same : (b : Bool) → eqb (readProtocol text .refusal .number) 0 ≡ b → w .printed ≡ v .printed
     same true e =
-        let z = eqb-true (readProtocol text .number) 0 e in
+        let z = eqb-true (readProtocol text .refusal .number) 0 e in
         listing-one (readProtocol text .tables) (w .printed) (v .printed) (w .planned z) (v .planned z)
-    same false e = let n = eqb-false (readProtocol text .number) 0 e in w .refused n ∙ sym (v .refused n)
+    same false e = let n = eqb-false (readProtocol text .refusal .number) 0 e in w .refused n ∙ sym (v .refused n)

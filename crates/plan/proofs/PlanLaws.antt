@@ -65,12 +65,12 @@ module _ (text : List ℕ) (x : Reading) (is : x ≡ readProtocol text) where
   call-refused h old r e =
       record {
         refused = λ n. record { answer = e ∙ ap (λ (y : Reading). refusedAt (y .number) 0 (y .line)) is; bytes = refl };
-        planned = λ z. absurd (h (ap (λ (y : Reading). y .number) is ∙ z));
+        planned = λ z. absurd (h (ap (λ (y : Reading). y .refusal .number) is ∙ z));
       }
 
   pub call-planned : x .number ≡ 0 → (old new : List ℕ) (r : Answer) → Planned (x .tables) old new r → Call text old new r
   call-planned z old new r p =
       record {
-        refused = λ n. absurd (n (ap (λ (y : Reading). y .number) (sym is) ∙ z));
+        refused = λ n. absurd (n (ap (λ (y : Reading). y .refusal .number) (sym is) ∙ z));
         planned = λ _. subst (λ (y : Reading). Planned (y .tables) old new r) is p;
       }

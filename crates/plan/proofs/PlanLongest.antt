@@ -105,13 +105,13 @@ plan-length text listing e l = go l
 -- ---- the answer
 
 pub plan-small : PlanSmall
-plan-small text old new r c = go (eqb (readProtocol text .number) 0) refl
+plan-small text old new r c = go (eqb (readProtocol text .refusal .number) 0) refl
   where
-    go : (b : Bool) → eqb (readProtocol text .number) 0 ≡ b → Small r
+    go : (b : Bool) → eqb (readProtocol text .refusal .number) 0 ≡ b → Small r
     go true e =
-        let z = eqb-true (readProtocol text .number) 0 e in
+        let z = eqb-true (readProtocol text .refusal .number) 0 e in
         let p = c .planned z in
         small-listed (p .listing) old new r (omega (arith, plan-length text (p .listing) z (p .allowed))) (p .listed)
     go false e =
         let low = protocol-low text in
-        small-refused (readProtocol text .number) 0 (readProtocol text .line) r (low .0) (omega arith) (low .1) (c .refused (eqb-false (readProtocol text .number) 0 e) .answer)
+        small-refused (readProtocol text .refusal .number) 0 (readProtocol text .refusal .line) r (low .0) (omega arith) (low .1) (c .refused (eqb-false (readProtocol text .refusal .number) 0 e) .answer)

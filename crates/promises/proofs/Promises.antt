@@ -34,7 +34,7 @@ use Rattle.promises.specs.Promises.{tablesOf, mapped, JudgedFit, JudgedU
 
 -- ---- an accepted protocol
 
-module _ (x : List ℕ) (e : readProtocol x .number ≡ 0) where
+module _ (x : List ℕ) (e : readProtocol x .refusal .number ≡ 0) where
   abbrev t : Tables
   t = readProtocol x .tables
 
@@ -116,7 +116,7 @@ module _ (x : List ℕ) (e : readProtocol x .number ≡ 0) where
   three-kept listing w =
       let ns = w .networks in
       let k = w .count in
-      let a : mapped x (mappingText ms ns) .number ≡ 0 = ap (λ (r : Mapped). r .number) (back ns k (w .long) (w .printed) (w .least)) in
+      let a : mapped x (mappingText ms ns) .number ≡ 0 = ap (λ (r : Mapped). r .refusal .number) (back ns k (w .long) (w .printed) (w .least)) in
       let q = kept ns k (w .long) (w .printed) (w .least) in
       record {
         networks = ns;

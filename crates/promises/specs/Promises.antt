@@ -65,5 +65,5 @@ pub record TwoKept (protocol listing : List ℕ) : Type 0 where
 -- Every plan of an accepted protocol text is one of the two, and keeps its promise.
 abbrev pub PlansKept : Type 0
 PlansKept =
-    (protocol old new : List ℕ) (r : Answer) → PlanCall protocol old new r → readProtocol protocol .number ≡ 0 →
+    (protocol old new : List ℕ) (r : Answer) → PlanCall protocol old new r → readProtocol protocol .refusal .number ≡ 0 →
     (listing : List ℕ) × Listed listing old new r × (ThreeKept protocol listing ⊎ TwoKept protocol listing)

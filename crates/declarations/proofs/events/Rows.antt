@@ -21,7 +21,7 @@ use Rattle.text.specs.Line.{Line, field, says}
 use Rattle.lines.specs.Line.{event, eventOf}
 use Rattle.lines.specs.Checks.{shaped}
 use Rattle.lines.specs.Told.{Refuses}
-use Rattle.lines.proofs.Numbers.{tells, tells-some, numbered, lineNumber, refuses}
+use Rattle.lines.proofs.Numbers.{tells, tells-some, one-number, lineNumber, refuses}
 use Rattle.lines.proofs.Sections.{an-event}
 use Rattle.declarations.proofs.named_fields.Declares.{fourOf, declares}
 use Rattle.declarations.specs.named_fields.Known.{messageDeclared}
@@ -81,8 +81,8 @@ module _ (k : ℕ) (line : List ℕ) (messages : List MessageRow) (many : ℕ) (
 
   pub event-refused : (n : ℕ) → (n ≡ 0 → ⊥) → n ≡ eventNumber (split 9 line) messages many events count → (r .refusal ≡ refusal n k) × (r .row ≡ noEvent)
       → EventTold k line messages many events count r
-  event-refused n h e q = record { told = event-told n e (q .0 ∙ sym (tells-some n k h)); row = λ z. absurd (h (sym (numbered (q .0)) ∙ z)); cleared = λ z. q .1 }
+  event-refused n h e q = record { told = event-told n e (q .0 ∙ sym (tells-some n k h)); row = λ z. absurd (h (sym (one-number (q .0)) ∙ z)); cleared = λ z. q .1 }
 
   pub event-taken : 0 ≡ eventNumber (split 9 line) messages many events count → r .refusal ≡ none → r .row ≡ eventOf (split 9 line)
       → EventTold k line messages many events count r
-  event-taken e q s = record { told = event-told 0 e q; row = λ z. s; cleared = λ z. absurd (z (numbered q)) }
+  event-taken e q s = record { told = event-told 0 e q; row = λ z. s; cleared = λ z. absurd (z (one-number q)) }

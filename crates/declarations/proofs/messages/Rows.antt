@@ -20,7 +20,7 @@ use Rattle.text.specs.Line.{Line, field, says}
 use Rattle.lines.specs.Line.{message, kindOf, messageOf}
 use Rattle.lines.specs.Checks.{shaped}
 use Rattle.lines.specs.Told.{Refuses}
-use Rattle.lines.proofs.Numbers.{tells, tells-some, numbered, lineNumber, refuses}
+use Rattle.lines.proofs.Numbers.{tells, tells-some, one-number, lineNumber, refuses}
 use Rattle.lines.proofs.Sections.{a-message}
 use Rattle.declarations.proofs.named_fields.Declares.{fourOf, declares}
 use Rattle.declarations.specs.named_fields.Known.{messageDeclared}
@@ -63,9 +63,9 @@ module _ (k : ℕ) (line : List ℕ) (messages : List MessageRow) (count : ℕ) 
   -- refused with a number
   pub message-refused : (n : ℕ) → (n ≡ 0 → ⊥) → n ≡ messageNumber (split 9 line) messages count → (r .refusal ≡ refusal n k) × (r .row ≡ noMessage)
       → MessageTold k line messages count r
-  message-refused n h e q = record { told = message-told n e (q .0 ∙ sym (tells-some n k h)); row = λ z. absurd (h (sym (numbered (q .0)) ∙ z)); cleared = λ z. q .1 }
+  message-refused n h e q = record { told = message-told n e (q .0 ∙ sym (tells-some n k h)); row = λ z. absurd (h (sym (one-number (q .0)) ∙ z)); cleared = λ z. q .1 }
 
   -- taken
   pub message-taken : 0 ≡ messageNumber (split 9 line) messages count → r .refusal ≡ none → r .row ≡ messageOf (split 9 line)
       → MessageTold k line messages count r
-  message-taken e q s = record { told = message-told 0 e q; row = λ z. s; cleared = λ z. absurd (z (numbered q)) }
+  message-taken e q s = record { told = message-told 0 e q; row = λ z. s; cleared = λ z. absurd (z (one-number q)) }

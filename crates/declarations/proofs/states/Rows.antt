@@ -22,7 +22,7 @@ use Rattle.text.specs.Line.{Line, field, says}
 use Rattle.lines.specs.Line.{state, controllerOf, stabilityOf, stateOf}
 use Rattle.lines.specs.Checks.{shaped}
 use Rattle.lines.specs.Told.{Refuses}
-use Rattle.lines.proofs.Numbers.{tells, tells-some, numbered, lineNumber, refuses}
+use Rattle.lines.proofs.Numbers.{tells, tells-some, one-number, lineNumber, refuses}
 use Rattle.lines.proofs.Sections.{a-state}
 use Rattle.declarations.proofs.named_fields.Declares.{fourOf, declares}
 use Rattle.declarations.specs.declared.states.StateLine.{StateLine}
@@ -66,8 +66,8 @@ module _ (k : ℕ) (line : List ℕ) (states : List StateRow) (count : ℕ) (fir
 
   pub state-refused : (n : ℕ) → (n ≡ 0 → ⊥) → n ≡ stateNumber (split 9 line) states count → (r .refusal ≡ refusal n k) × (r .row ≡ noState)
       → StateTold k line states count r
-  state-refused n h e q = record { told = state-told n e (q .0 ∙ sym (tells-some n k h)); row = λ z. absurd (h (sym (numbered (q .0)) ∙ z)); cleared = λ z. q .1 }
+  state-refused n h e q = record { told = state-told n e (q .0 ∙ sym (tells-some n k h)); row = λ z. absurd (h (sym (one-number (q .0)) ∙ z)); cleared = λ z. q .1 }
 
   pub state-taken : 0 ≡ stateNumber (split 9 line) states count → r .refusal ≡ none → r .row ≡ stateOf (split 9 line)
       → StateTold k line states count r
-  state-taken e q s = record { told = state-told 0 e q; row = λ z. s; cleared = λ z. absurd (z (numbered q)) }
+  state-taken e q s = record { told = state-told 0 e q; row = λ z. s; cleared = λ z. absurd (z (one-number q)) }

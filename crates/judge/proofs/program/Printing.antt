@@ -42,23 +42,23 @@ module _ (x y old new : List ℕ) (r : Answer) (room : 2048 ≤ length old) (c :
   m = mappedFor t y
 
   data Answered : Type 0 where
-    bad-protocol : Stopped (readProtocol x .number) 0 (readProtocol x .line) old new r → Answered
-    bad-mapping : readProtocol x .number ≡ 0 → Stopped (m .number) 1 (m .line) old new r → Answered
-    judgement : readProtocol x .number ≡ 0 → m .number ≡ 0 → Judged t (mappingOf (m .networks)) old new r → Answered
+    bad-protocol : Stopped (readProtocol x .refusal .number) 0 (readProtocol x .refusal .line) old new r → Answered
+    bad-mapping : readProtocol x .refusal .number ≡ 0 → Stopped (m .number) 1 (m .line) old new r → Answered
+    judgement : readProtocol x .refusal .number ≡ 0 → m .number ≡ 0 → Judged t (mappingOf (m .networks)) old new r → Answered
 
   answered : Answered
-  answered = go (eqb (readProtocol x .number) 0) refl
+  answered = go (eqb (readProtocol x .refusal .number) 0) refl
     where
-      after : readProtocol x .number ≡ 0 → (b : Bool) → eqb (m .number) 0 ≡ b → Answered
+      after : readProtocol x .refusal .number ≡ 0 → (b : Bool) → eqb (m .number) 0 ≡ b → Answered
       after z true e = let a = eqb-true (m .number) 0 e in judgement z a (c .protocol-accepted z .judged a)
       after z false e =
           let n = eqb-false (m .number) 0 e in
           bad-mapping z (record { refusal = c .protocol-accepted z .mapping-refused n; low = mapping-low (messagesOf t) y; some = n; paper-low = omega arith })
 
-      go : (b : Bool) → eqb (readProtocol x .number) 0 ≡ b → Answered
-      go true e = after (eqb-true (readProtocol x .number) 0 e) (eqb (m .number) 0) refl
+      go : (b : Bool) → eqb (readProtocol x .refusal .number) 0 ≡ b → Answered
+      go true e = after (eqb-true (readProtocol x .refusal .number) 0 e) (eqb (m .number) 0) refl
       go false e =
-          let n = eqb-false (readProtocol x .number) 0 e in
+          let n = eqb-false (readProtocol x .refusal .number) 0 e in
           bad-protocol (record { refusal = c .protocol-refused n; low = protocol-low x; some = n; paper-low = omega arith })
 
   -- a refusal has its number
@@ -66,7 +66,7 @@ module _ (x y old new : List ℕ) (r : Answer) (room : 2048 ≤ length old) (c :
   stopped-number number paper line s e = s .some (sym (refused-parts number paper line old new r (s .refusal) .0) ∙ e)
 
   -- a judgement has number 0
-  judged-wrote : (z : readProtocol x .number ≡ 0) (j : Judged t (mappingOf (m .networks)) old new r) → (r .number ≡ 0) × Wrote (j .listing) old new (r .length)
+  judged-wrote : (z : readProtocol x .refusal .number ≡ 0) (j : Judged t (mappingOf (m .networks)) old new r) → (r .number ≡ 0) × Wrote (j .listing) old new (r .length)
   judged-wrote z j =
       listed-wrote (j .listing) old new r (omega (arith, room, judge-length x (j .listing) (mappingOf (m .networks)) z (j .allowed))) (j .listed)
 
@@ -74,7 +74,7 @@ module _ (x y old new : List ℕ) (r : Answer) (room : 2048 ≤ length old) (c :
   print-listing e = go answered
     where
       go : Answered → JudgePrinted x y old new (r .length)
-      go (bad-protocol s) = absurd (stopped-number (readProtocol x .number) 0 (readProtocol x .line) s e)
+      go (bad-protocol s) = absurd (stopped-number (readProtocol x .refusal .number) 0 (readProtocol x .refusal .line) s e)
       go (bad-mapping z s) = absurd (stopped-number (m .number) 1 (m .line) s e)
       go (judgement z a j) =
           record {
@@ -111,7 +111,7 @@ module _ (x y old new : List ℕ) (r : Answer) (room : 2048 ≤ length old) (c :
     refusal-line = go answered
       where
         go : Answered → r .line < 4294967296
-        go (bad-protocol s) = stopped-line (readProtocol x .number) 0 (readProtocol x .line) s
+        go (bad-protocol s) = stopped-line (readProtocol x .refusal .number) 0 (readProtocol x .refusal .line) s
         go (bad-mapping z s) = stopped-line (m .number) 1 (m .line) s
         go (judgement z a j) = absurd (e (judged-wrote z j .0))
 
@@ -119,7 +119,7 @@ module _ (x y old new : List ℕ) (r : Answer) (room : 2048 ≤ length old) (c :
     refusal-room = go answered
       where
         go : Answered → length (refusedText (r .number) (r .paper) (r .line)) ≤ length new
-        go (bad-protocol s) = stopped-room (readProtocol x .number) 0 (readProtocol x .line) s
+        go (bad-protocol s) = stopped-room (readProtocol x .refusal .number) 0 (readProtocol x .refusal .line) s
         go (bad-mapping z s) = stopped-room (m .number) 1 (m .line) s
         go (judgement z a j) = absurd (e (judged-wrote z j .0))
 
@@ -142,7 +142,7 @@ module _ (x y old new : List ℕ) (r : Answer) (room : 2048 ≤ length old) (c :
         go (bad-protocol s) =
             record {
               printed = refusedText (r .number) (r .paper) (r .line);
-              protocol-refused = λ _. stopped-text (readProtocol x .number) 0 (readProtocol x .line) s;
+              protocol-refused = λ _. stopped-text (readProtocol x .refusal .number) 0 (readProtocol x .refusal .line) s;
               protocol-accepted = λ z. absurd (s .some z);
               wrote = wrote-old;
             }

@@ -22,17 +22,17 @@ use Rattle.plan.proofs.PlanLongest.{plan-length}
 
 module _ (text old new : List ℕ) (r : Answer) (room : 2048 ≤ length old) (c : Call text old new r) where
   -- a plan has number 0
-  accepted : readProtocol text .number ≡ 0 → r .number ≡ 0
+  accepted : readProtocol text .refusal .number ≡ 0 → r .number ≡ 0
   accepted z =
       let p = c .planned z in
       listed-wrote (p .listing) old new r (omega (arith, room, plan-length text (p .listing) z (p .allowed))) (p .listed) .0
 
   pub print-listing : r .number ≡ 0 → PlanPrinted text old new (r .length)
-  print-listing e = go (eqb (readProtocol text .number) 0) refl
+  print-listing e = go (eqb (readProtocol text .refusal .number) 0) refl
     where
-      go : (b : Bool) → eqb (readProtocol text .number) 0 ≡ b → PlanPrinted text old new (r .length)
+      go : (b : Bool) → eqb (readProtocol text .refusal .number) 0 ≡ b → PlanPrinted text old new (r .length)
       go true q =
-          let z = eqb-true (readProtocol text .number) 0 q in
+          let z = eqb-true (readProtocol text .refusal .number) 0 q in
           let p = c .planned z in
           record {
             printed = p .listing;
@@ -41,15 +41,15 @@ module _ (text old new : List ℕ) (r : Answer) (room : 2048 ≤ length old) (c 
             wrote = listed-wrote (p .listing) old new r (omega (arith, room, plan-length text (p .listing) z (p .allowed))) (p .listed) .1;
           }
       go false q =
-          let n = eqb-false (readProtocol text .number) 0 q in
-          absurd (n (sym (refused-parts (readProtocol text .number) 0 (readProtocol text .line) old new r (c .refused n) .0) ∙ e))
+          let n = eqb-false (readProtocol text .refusal .number) 0 q in
+          absurd (n (sym (refused-parts (readProtocol text .refusal .number) 0 (readProtocol text .refusal .line) old new r (c .refused n) .0) ∙ e))
 
   module _ (e : r .number ≢ 0) where
-    refusal : Refused (readProtocol text .number) 0 (readProtocol text .line) old new r
+    refusal : Refused (readProtocol text .refusal .number) 0 (readProtocol text .refusal .line) old new r
     refusal = c .refused (λ z. e (accepted z))
 
-    parts : (r .number ≡ readProtocol text .number) × (r .paper ≡ 0) × (r .line ≡ readProtocol text .line)
-    parts = refused-parts (readProtocol text .number) 0 (readProtocol text .line) old new r refusal
+    parts : (r .number ≡ readProtocol text .refusal .number) × (r .paper ≡ 0) × (r .line ≡ readProtocol text .refusal .line)
+    parts = refused-parts (readProtocol text .refusal .number) 0 (readProtocol text .refusal .line) old new r refusal
 
     pub refusal-line : r .line < 4294967296
     refusal-line = omega (arith, parts .2, protocol-low text .1)
@@ -67,8 +67,8 @@ module _ (text old new : List ℕ) (r : Answer) (room : 2048 ≤ length old) (c 
     print-refusal new₂ n w =
         record {
           printed = refusedText (r .number) (r .paper) (r .line);
-          refused = λ _. ap (λ (k : ℕ). refusedText k (r .paper) (r .line)) (parts .0) ∙ ap (λ (k : ℕ). refusedText (readProtocol text .number) k (r .line)) (parts .1)
-              ∙ ap (refusedText (readProtocol text .number) 0) (parts .2);
+          refused = λ _. ap (λ (k : ℕ). refusedText k (r .paper) (r .line)) (parts .0) ∙ ap (λ (k : ℕ). refusedText (readProtocol text .refusal .number) k (r .line)) (parts .1)
+              ∙ ap (refusedText (readProtocol text .refusal .number) 0) (parts .2);
           planned = λ z. absurd (e (accepted z));
           wrote = subst (λ (o : List ℕ). Wrote (refusedText (r .number) (r .paper) (r .line)) o new₂ n) (refusal .bytes) w;
         }

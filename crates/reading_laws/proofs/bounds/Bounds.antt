@@ -22,10 +22,10 @@ use Rattle.text.specs.Line.{Line}
 use Rattle.lines.specs.Line.{Section, message, event, state, cell, unknown, sectionOf}
 use Rattle.lines.specs.Checks.{sectionChecks, lineChecks, lineRefusal}
 use Rattle.mapping.specs.declared.Mapped.{Mapped}
-use Rattle.mapping.specs.Reading.{readMaps, readMapping, endOf, unless as unlessMapped}
+use Rattle.mapping.specs.Reading.{mapsUnless, endOf, readMaps, readMapping}
 use Rattle.mapping.specs.networks.Networks.{networkOf}
 use Rattle.text.specs.Line.{field}
-use Rattle.mapping.specs.lines.Line.{lineChecks as mapChecks, lineRefusal as mapRefusal}
+use Rattle.mapping.specs.lines.Line.{mapChecks, mapRefusal}
 use Rattle.protocol.specs.declared.whole.Reading.{Reading}
 use Rattle.protocol.specs.sections.Lines.{readLines, storedIn, stored}
 use Rattle.protocol.specs.Reading.{readProtocol}
@@ -36,7 +36,7 @@ use Rattle.reading_laws.proofs.bounds.Told.{AllLow, first-low, lines-le
 -- ---- the protocol
 
 abbrev LowReading : Reading → Type 0
-LowReading r = Low (r .number) (r .line)
+LowReading r = Low (r .refusal .number) (r .refusal .line)
 
 unless-low : (r : Refusal) (a : Reading) → Low (r .number) (r .line) → LowReading a → LowReading (unless r a)
 unless-low r a h k = go (eqb (r .number) 0) refl
@@ -101,12 +101,12 @@ protocol-low text = ⊎-elim small big (fits-or-not (length text))
 -- ---- the mapping
 
 abbrev LowMapped : Mapped → Type 0
-LowMapped r = Low (r .number) (r .line)
+LowMapped r = Low (r .refusal .number) (r .refusal .line)
 
-mapped-low : (r : Refusal) (a : Mapped) → Low (r .number) (r .line) → LowMapped a → LowMapped (unlessMapped r a)
+mapped-low : (r : Refusal) (a : Mapped) → Low (r .number) (r .line) → LowMapped a → LowMapped (mapsUnless r a)
 mapped-low r a h k = go (eqb (r .number) 0) refl
   where
-    go : (t : Bool) → eqb (r .number) 0 ≡ t → LowMapped (unlessMapped r a)
+    go : (t : Bool) → eqb (r .number) 0 ≡ t → LowMapped (mapsUnless r a)
     go true e = rw e k
     go false e = rw e h
 
@@ -136,4 +136,4 @@ mapping-low messages text = ⊎-elim small big (fits-or-not (length text))
         (maps-low 2 (drop 1 (lines text)) messages [] (omega (arith, lines-le text, h)))
 
     big : 49152 < length text → LowMapped (readMapping messages text)
-    big h = subst (λ (r : Refusal). LowMapped (unlessMapped r body)) (sym (too-big mappingHeader text h)) (omega arith, omega arith)
+    big h = subst (λ (r : Refusal). LowMapped (mapsUnless r body)) (sym (too-big mappingHeader text h)) (omega arith, omega arith)

@@ -86,7 +86,7 @@ named-stored unknown t f n e g = n
 
 -- ---- the text
 
-named-lines : (k : ℕ) (ls : List (List ℕ)) (t : Tables) → Named t → readLines k ls t .number ≡ 0 → Named (readLines k ls t .tables)
+named-lines : (k : ℕ) (ls : List (List ℕ)) (t : Tables) → Named t → readLines k ls t .refusal .number ≡ 0 → Named (readLines k ls t .tables)
 unfolding readLines lineRefusal
 named-lines k [] t n e = subst (λ (r : Reading). Named (r .tables)) (sym (unless-number (wholeRefusal t) (accepted t) e .1)) n
 named-lines k (l ∷ ls) t n e =
@@ -96,12 +96,12 @@ named-lines k (l ∷ ls) t n e =
     subst (λ (r : Reading). Named (r .tables)) (sym (q .1))
     (named-lines (suc k) ls (stored t f)
     (named-stored (sectionOf f) t f n (p .name) (p .room))
-    (ap (λ (r : Reading). r .number) (sym (q .1)) ∙ e))
+    (ap (λ (r : Reading). r .refusal .number) (sym (q .1)) ∙ e))
 
 pub names-kept : NamesKept
 unfolding readProtocol
 names-kept text e =
     let body = readLines 2 (drop 1 (lines text)) clearedTables in
     let q = unless-number (openingOf protocolHeader text) body e in
-    let n = named-lines 2 (drop 1 (lines text)) clearedTables named-cleared (ap (λ (r : Reading). r .number) (sym (q .1)) ∙ e) in
+    let n = named-lines 2 (drop 1 (lines text)) clearedTables named-cleared (ap (λ (r : Reading). r .refusal .number) (sym (q .1)) ∙ e) in
     subst (λ (r : Reading). Named (r .tables)) (sym (q .1)) n

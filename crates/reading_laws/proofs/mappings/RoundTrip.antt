@@ -5,6 +5,7 @@ use mathlib.Core.List.{List, [], _∷_, _++_, append-assoc, append-nil}
 use mathlib.Core.Logic.{⊎-elim}
 use Prim.Native.Nat.{ℕ, suc, _+_, _-_, _*_, _/_, _%_, _≤_, _<_}
 use native.Mathlib.Omega.{arith}
+use borrow.Author.Tests.{lt-ltb}
 use lib.ListN.{length, getD, drop, length-append}
 use Rattle.text.specs.Parts.{howMany, split, lines}
 use Rattle.text.specs.Name.{nameRule, nameText}
@@ -17,15 +18,13 @@ use Rattle.papers.specs.declared.Refusal.{Refusal}
 use Rattle.papers.proofs.OpeningLaws.{opens}
 use Rattle.papers.proofs.Joined.{many-cons, many-append, split-none, split-join, lines-join, Ends, ends-join, name-lacks}
 use Rattle.tables.specs.declared.MessageRow.{MessageRow}
-use Rattle.mapping.specs.declared.lines.MapLine.{MapLine}
 use Rattle.text.specs.Line.{field}
-use Rattle.mapping.specs.lines.Line.{lineRefusal}
+use Rattle.mapping.specs.lines.Line.{mapRefusal}
 use Rattle.mapping.specs.networks.Networks.{networkOf}
-use Rattle.mapping.specs.Reading.{accepted, readMaps, readMapping}
-use Rattle.mapping.specs.lines.Line.{mapLine}
+use Rattle.mapping.specs.Reading.{mapsAccepted, readMaps, readMapping}
 use Rattle.mapping.specs.Text.{mapFields, mapTexts, mappingText, Writable}
 use Rattle.mapping.proofs.networks.NetworkLaws.{low-or-high, two, network-found}
-use Rattle.mapping.proofs.lines.LineLaws.{refusalAt, gives-network, line-gives}
+use Rattle.mapping.proofs.lines.LineLaws.{line-next, line-passes}
 use Rattle.mapping.proofs.ReadLaws.{maps-more, reading-opened}
 
 -- ---- a network in decimal
@@ -125,17 +124,16 @@ short-texts (m ∷ ms) (n ∷ ns) w =
 -- ---- reading them
 
 -- a line that was written gives no refusal
-line-good : (m : MessageRow) (next : List MessageRow) (k n : ℕ) → n < 32 → lineRefusal (m ∷ next) k (mapWord ∷ (nameText (m .name) ∷ (decimal n ∷ []))) .number ≡ 0
+line-good : (m : MessageRow) (next : List MessageRow) (k n : ℕ) → n < 32 → mapRefusal (m ∷ next) k (mapWord ∷ (nameText (m .name) ∷ (decimal n ∷ []))) .number ≡ 0
 line-good m next k n h =
     let f = mapWord ∷ (nameText (m .name) ∷ (decimal n ∷ [])) in
-    let gives : record { number = 0; network = n } ≡ mapLine m f =
-    gives-network m f n (sym (network-found n h)) (same-refl (nameText (m .name))) (omega arith) in
     ap (λ (r : Refusal). r .number)
-    (line-gives k f m next (same-refl mapWord) ∙ ap (λ (r : MapLine). refusalAt k (r .number)) (sym gives))
+    (line-next k f m next
+    ∙ line-passes k f (same-refl mapWord) m (same-refl (nameText (m .name))) (lt-ltb (networkOf (decimal n)) 32 (omega (arith, network-found n h))))
 
-read-back : (ms : List MessageRow) (ns : List ℕ) (k : ℕ) (first : List ℕ) → Writable ms ns → readMaps k (textLines ms ns) ms first ≡ accepted (first ++ ns)
+read-back : (ms : List MessageRow) (ns : List ℕ) (k : ℕ) (first : List ℕ) → Writable ms ns → readMaps k (textLines ms ns) ms first ≡ mapsAccepted (first ++ ns)
 unfolding readMaps textLines
-read-back [] [] k first w = ap accepted (sym (append-nil first))
+read-back [] [] k first w = ap mapsAccepted (sym (append-nil first))
 read-back [] (n ∷ ns) k first w = absurd (omega (arith, w .long))
 read-back (m ∷ ms) [] k first w = absurd (omega (arith, w .long))
 read-back (m ∷ ms) (n ∷ ns) k first w =
@@ -143,11 +141,11 @@ read-back (m ∷ ms) (n ∷ ns) k first w =
     let l = mapFields name n in
     let fields = map-split name n (w .named 0 (omega arith)) (w .below 0 (omega arith)) in
     maps-more k l (textLines ms ns) (m ∷ ms) first
-    (ap (λ (f : List (List ℕ)). lineRefusal (m ∷ ms) k f .number) fields ∙ line-good m ms k n (w .below 0 (omega arith)))
+    (ap (λ (f : List (List ℕ)). mapRefusal (m ∷ ms) k f .number) fields ∙ line-good m ms k n (w .below 0 (omega arith)))
     ∙ ap (λ (v : ℕ). readMaps (suc k) (textLines ms ns) ms (first ++ (v ∷ [])))
     (ap (λ (f : List (List ℕ)). networkOf (field f 2)) fields ∙ network-found n (w .below 0 (omega arith)))
     ∙ read-back ms ns (suc k) (first ++ (n ∷ [])) (later m ms n ns w)
-    ∙ ap accepted (append-assoc first (n ∷ []) ns)
+    ∙ ap mapsAccepted (append-assoc first (n ∷ []) ns)
 
 -- ---- the whole text
 
@@ -165,7 +163,7 @@ module _ (ms : List MessageRow) (ns : List ℕ) (w : Writable ms ns) where
   mapping-text-short = omega (arith, ap length whole, short-texts ms ns w, w .few)
 
   -- what was written reads back
-  pub reads-back : readMapping ms (mappingText ms ns) ≡ accepted ns
+  pub reads-back : readMapping ms (mappingText ms ns) ≡ mapsAccepted ns
   reads-back =
       let open′ = opens mappingHeader (mappingText ms ns) (textLines ms ns) (omega (arith, mapping-text-short))
       (ap (λ (t : List ℕ). getD t (length t - 1) 10) whole ∙ ends-join mappingHeader (mapTexts ms ns) (ends-texts ms ns)) text-lines in

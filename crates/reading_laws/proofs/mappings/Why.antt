@@ -14,7 +14,7 @@ use Rattle.rules.specs.declared.Network.{Network}
 use Rattle.text.specs.Parts.{split, lines}
 use Rattle.text.specs.Words.{mappingHeader}
 use Rattle.papers.specs.declared.Refusal.{Refusal}
-use Rattle.papers.specs.Checks.{check, refusal, firstOf}
+use Rattle.papers.specs.Checks.{Check, check, refusal, firstOf}
 use Rattle.papers.specs.Opening.{openingChecks, openingOf, Opens}
 use Rattle.papers.proofs.Checks.{only-given, passed-by, numbered}
 use Rattle.papers.proofs.OpeningLaws.{opening-rows}
@@ -22,20 +22,21 @@ use Rattle.tables.specs.declared.MessageRow.{MessageRow}
 use Rattle.tables.proofs.AllCells.{getD-zeros}
 use Rattle.mapping.specs.declared.Mapped.{Mapped}
 use Rattle.text.specs.Line.{field}
-use Rattle.mapping.specs.lines.Shape.{shaped}
-use Rattle.mapping.specs.lines.Line.{matches, isNetwork, lineChecks, lineRefusal}
-use Rattle.mapping.specs.networks.Networks.{networkOf}
-use Rattle.mapping.specs.Reading.{networkNo, accepted, refused, readMaps, readMapping}
-use Rattle.mapping.specs.lines.Line.{restChecks}
-use Rattle.reading_laws.specs.mappings.Why.{Passed, BadLine, EndsEarly, Accepted, BadOpening, LinesAnswered, MappingAnswered, MappingAccepted, BadTold}
+use Rattle.mapping.specs.lines.Line.{mapShaped, matches, mapChecks, mapRefusal}
+use Rattle.mapping.specs.networks.Networks.{networkOf, isNetwork, networkNo}
+use Rattle.mapping.specs.Reading.{mapsAccepted, mapsRefused, readMaps, readMapping}
+use Rattle.reading_laws.specs.mappings.Why.{MapsPassed, BadMap, MapsEndEarly, MapsAccepted, BadMapOpening, MapsAnswered, MappingAnswered, MappingAccepted, BadTold}
 use Rattle.mapping.proofs.ReadLaws.{maps-more, maps-stop, reading-refused, reading-opened}
 
 -- ---- a line that gives no refusal
 
-module _ (next : List MessageRow) (k : ℕ) (f : List (List ℕ)) (e : lineRefusal next k f .number ≡ 0) where
-  after-shape : (not (shaped f) ≡ false) × (firstOf (restChecks next k f) .number ≡ 0)
-  unfolding lineRefusal
-  after-shape = passed-by (check 4 k (not (shaped f))) (restChecks next k f) (λ z. omega arith) e
+module _ (next : List MessageRow) (k : ℕ) (f : List (List ℕ)) (e : mapRefusal next k f .number ≡ 0) where
+  abbrev rest : List Check
+  rest = check 14 k (not (matches next (field f 1))) ∷ check 15 k (not (isNetwork (field f 2))) ∷ []
+
+  after-shape : (not (mapShaped f) ≡ false) × (firstOf rest .number ≡ 0)
+  unfolding mapRefusal
+  after-shape = passed-by (check 4 k (not (mapShaped f))) (rest) (λ z. omega arith) e
 
   after-match : (not (matches next (field f 1)) ≡ false) × (firstOf (check 15 k (not (isNetwork (field f 2))) ∷ []) .number ≡ 0)
   after-match = passed-by (check 14 k (not (matches next (field f 1)))) (check 15 k (not (isNetwork (field f 2))) ∷ []) (λ z. omega arith) (after-shape .1)
@@ -56,47 +57,47 @@ some-next (m ∷ next) x e = refl
 -- ---- the three ways that the lines can end
 
 -- Accepted, a bad line, or the text ends early.
-abbrev pub Answer : List MessageRow → ℕ → List (List ℕ) → List ℕ → Type 0
-Answer next k ls ns =
-    Accepted next k ls ns (readMaps k ls next ns) ⊎ (BadLine next k ls (readMaps k ls next ns) ⊎ EndsEarly next k ls (readMaps k ls next ns))
+abbrev pub MapsAnswer : List MessageRow → ℕ → List (List ℕ) → List ℕ → Type 0
+MapsAnswer next k ls ns =
+    MapsAccepted next k ls ns (readMaps k ls next ns) ⊎ (BadMap next k ls (readMaps k ls next ns) ⊎ MapsEndEarly next k ls (readMaps k ls next ns))
 
-module _ (next : List MessageRow) (k : ℕ) (l : List ℕ) (ls : List (List ℕ)) (e : lineRefusal next k (split 9 l) .number ≡ 0) where
-  more-at : (i : ℕ) → lineRefusal (drop i (drop 1 next)) (suc k + i) (split 9 (getD ls i [])) ≡ lineRefusal (drop (suc i) next) (k + suc i) (split 9 (getD (l ∷ ls) (suc i) []))
+module _ (next : List MessageRow) (k : ℕ) (l : List ℕ) (ls : List (List ℕ)) (e : mapRefusal next k (split 9 l) .number ≡ 0) where
+  more-at : (i : ℕ) → mapRefusal (drop i (drop 1 next)) (suc k + i) (split 9 (getD ls i [])) ≡ mapRefusal (drop (suc i) next) (k + suc i) (split 9 (getD (l ∷ ls) (suc i) []))
   more-at i =
       let p : suc k + i ≡ k + suc i = omega arith in
       let q : drop i (drop 1 next) ≡ drop (suc i) next = drop-drop i 1 next ∙ ap (λ (j : ℕ). drop j next) (let s : 1 + i ≡ suc i = omega arith in s) in
-      ap₂ (λ (m : List MessageRow) (n : ℕ). lineRefusal m n (split 9 (getD ls i []))) q p
+      ap₂ (λ (m : List MessageRow) (n : ℕ). mapRefusal m n (split 9 (getD ls i []))) q p
 
-  passed-more : (j : ℕ) → Passed (drop 1 next) (suc k) ls j → Passed next k (l ∷ ls) (suc j)
+  passed-more : (j : ℕ) → MapsPassed (drop 1 next) (suc k) ls j → MapsPassed next k (l ∷ ls) (suc j)
   passed-more j h = record { lines = at }
     where
-      at : (i : ℕ) → i < suc j → lineRefusal (drop i next) (k + i) (split 9 (getD (l ∷ ls) i [])) .number ≡ 0
-      at zero g = ap (λ (n : ℕ). lineRefusal next n (split 9 l) .number) (add-zero k) ∙ e
+      at : (i : ℕ) → i < suc j → mapRefusal (drop i next) (k + i) (split 9 (getD (l ∷ ls) i [])) .number ≡ 0
+      at zero g = ap (λ (n : ℕ). mapRefusal next n (split 9 l) .number) (add-zero k) ∙ e
       at (suc i) g = ap (λ (r : Refusal). r .number) (sym (more-at i)) ∙ h .lines i (omega arith)
 
   -- the same answer, one line on
   module _ (r s : Mapped) (on : r ≡ s) where
-    more-bad : BadLine (drop 1 next) (suc k) ls s → BadLine next k (l ∷ ls) r
+    more-bad : BadMap (drop 1 next) (suc k) ls s → BadMap next k (l ∷ ls) r
     more-bad b =
         record {
           place = suc (b .place);
           below = omega (arith, b .below);
           before = passed-more (b .place) (b .before);
           bad = λ q. b .bad (ap (λ (m : Refusal). m .number) (more-at (b .place)) ∙ q);
-          is = on ∙ b .is ∙ ap refused (more-at (b .place));
+          is = on ∙ b .is ∙ ap mapsRefused (more-at (b .place));
         }
 
     module _ (step : length next ≡ suc (length (drop 1 next))) where
-      more-early : EndsEarly (drop 1 next) (suc k) ls s → EndsEarly next k (l ∷ ls) r
+      more-early : MapsEndEarly (drop 1 next) (suc k) ls s → MapsEndEarly next k (l ∷ ls) r
       more-early d =
           let q : suc k + length ls ≡ k + suc (length ls) = omega arith in
           record {
             before = passed-more (length ls) (d .before);
             short = omega (arith, d .short);
-            is = on ∙ d .is ∙ ap (λ (j : ℕ). refused (refusal 14 j)) q;
+            is = on ∙ d .is ∙ ap (λ (j : ℕ). mapsRefused (refusal 14 j)) q;
           }
 
-      more-accepted : (ns : List ℕ) → Accepted (drop 1 next) (suc k) ls (ns ++ (networkOf (field (split 9 l) 2) ∷ [])) s → Accepted next k (l ∷ ls) ns r
+      more-accepted : (ns : List ℕ) → MapsAccepted (drop 1 next) (suc k) ls (ns ++ (networkOf (field (split 9 l) 2) ∷ [])) s → MapsAccepted next k (l ∷ ls) ns r
       more-accepted ns a =
           record {
             before = passed-more (length ls) (a .before);
@@ -105,7 +106,7 @@ module _ (next : List MessageRow) (k : ℕ) (l : List ℕ) (ls : List (List ℕ)
             count = omega (arith, a .count);
             gives = given;
             below = at;
-            is = on ∙ a .is ∙ ap accepted (append-assoc ns (networkOf (field (split 9 l) 2) ∷ []) (a .ns));
+            is = on ∙ a .is ∙ ap mapsAccepted (append-assoc ns (networkOf (field (split 9 l) 2) ∷ []) (a .ns));
           }
         where
           given : (i : ℕ) → i < suc (length (a .ns)) → getD (networkOf (field (split 9 l) 2) ∷ a .ns) i 0 ≡ networkOf (field (split 9 (getD (l ∷ ls) i [])) 2)
@@ -116,7 +117,7 @@ module _ (next : List MessageRow) (k : ℕ) (l : List ℕ) (ls : List (List ℕ)
           at zero h = line-network next k (split 9 l) e
           at (suc i) h = a .below i (omega arith)
 
-pub answered : (ls : List (List ℕ)) (next : List MessageRow) (k : ℕ) (ns : List ℕ) → Answer next k ls ns
+pub answered : (ls : List (List ℕ)) (next : List MessageRow) (k : ℕ) (ns : List ℕ) → MapsAnswer next k ls ns
 unfolding readMaps
 answered [] [] k ns =
     inl
@@ -127,34 +128,34 @@ answered [] [] k ns =
       count = refl;
       gives = λ i h. absurd (omega arith);
       below = λ i h. absurd (omega arith);
-      is = ap accepted (sym (append-nil ns));
+      is = ap mapsAccepted (sym (append-nil ns));
     })
 answered [] (m ∷ next) k ns =
-    inr (inr (record { before = record { lines = λ i h. absurd (omega arith) }; short = omega arith; is = ap (λ (j : ℕ). refused (refusal 14 j)) (sym (add-zero k)) }))
+    inr (inr (record { before = record { lines = λ i h. absurd (omega arith) }; short = omega arith; is = ap (λ (j : ℕ). mapsRefused (refusal 14 j)) (sym (add-zero k)) }))
 answered (l ∷ ls) next k ns =
-    go (eqb (lineRefusal next k (split 9 l) .number) 0) refl (answered ls (drop 1 next) (suc k) (ns ++ (networkOf (field (split 9 l) 2) ∷ [])))
+    go (eqb (mapRefusal next k (split 9 l) .number) 0) refl (answered ls (drop 1 next) (suc k) (ns ++ (networkOf (field (split 9 l) 2) ∷ [])))
   where
-    go : (t : Bool) → eqb (lineRefusal next k (split 9 l) .number) 0 ≡ t → Answer (drop 1 next) (suc k) ls (ns ++ (networkOf (field (split 9 l) 2) ∷ []))
-        → Answer next k (l ∷ ls) ns
+    go : (t : Bool) → eqb (mapRefusal next k (split 9 l) .number) 0 ≡ t → MapsAnswer (drop 1 next) (suc k) ls (ns ++ (networkOf (field (split 9 l) 2) ∷ []))
+        → MapsAnswer next k (l ∷ ls) ns
     go true e w =
-        let z = eqb-true (lineRefusal next k (split 9 l) .number) 0 e in
+        let z = eqb-true (mapRefusal next k (split 9 l) .number) 0 e in
         let on = maps-more k l ls next ns z in
         let step = some-next next (field (split 9 l) 1) (line-matches next k (split 9 l) z) in
-        ⊎-elim (λ (a : Accepted (drop 1 next) (suc k) ls (ns ++ (networkOf (field (split 9 l) 2) ∷ [])) (readMaps (suc k) ls (drop 1 next) (ns ++ (networkOf (field (split 9 l) 2) ∷ [])))).
+        ⊎-elim (λ (a : MapsAccepted (drop 1 next) (suc k) ls (ns ++ (networkOf (field (split 9 l) 2) ∷ [])) (readMaps (suc k) ls (drop 1 next) (ns ++ (networkOf (field (split 9 l) 2) ∷ [])))).
         inl (more-accepted next k l ls z (readMaps k (l ∷ ls) next ns) (readMaps (suc k) ls (drop 1 next) (ns ++ (networkOf (field (split 9 l) 2) ∷ []))) on step ns a))
-        (⊎-elim (λ (b : BadLine (drop 1 next) (suc k) ls (readMaps (suc k) ls (drop 1 next) (ns ++ (networkOf (field (split 9 l) 2) ∷ [])))).
+        (⊎-elim (λ (b : BadMap (drop 1 next) (suc k) ls (readMaps (suc k) ls (drop 1 next) (ns ++ (networkOf (field (split 9 l) 2) ∷ [])))).
         inr (inl (more-bad next k l ls z (readMaps k (l ∷ ls) next ns) (readMaps (suc k) ls (drop 1 next) (ns ++ (networkOf (field (split 9 l) 2) ∷ []))) on b)))
-        (λ (d : EndsEarly (drop 1 next) (suc k) ls (readMaps (suc k) ls (drop 1 next) (ns ++ (networkOf (field (split 9 l) 2) ∷ [])))).
+        (λ (d : MapsEndEarly (drop 1 next) (suc k) ls (readMaps (suc k) ls (drop 1 next) (ns ++ (networkOf (field (split 9 l) 2) ∷ [])))).
         inr (inr (more-early next k l ls z (readMaps k (l ∷ ls) next ns) (readMaps (suc k) ls (drop 1 next) (ns ++ (networkOf (field (split 9 l) 2) ∷ []))) on step d)))) w
     go false e w =
-        let z = eqb-false (lineRefusal next k (split 9 l) .number) 0 e in
-        let here : lineRefusal next k (split 9 l) ≡ lineRefusal next (k + 0) (split 9 l) = ap (λ (j : ℕ). lineRefusal next j (split 9 l)) (sym (add-zero k)) in
+        let z = eqb-false (mapRefusal next k (split 9 l) .number) 0 e in
+        let here : mapRefusal next k (split 9 l) ≡ mapRefusal next (k + 0) (split 9 l) = ap (λ (j : ℕ). mapRefusal next j (split 9 l)) (sym (add-zero k)) in
         inr (inl (record {
           place = 0;
           below = omega arith;
           before = record { lines = λ i h. absurd (omega arith) };
           bad = λ q. z (ap (λ (r : Refusal). r .number) here ∙ q);
-          is = maps-stop k l ls next ns z ∙ ap refused here;
+          is = maps-stop k l ls next ns z ∙ ap mapsRefused here;
         }))
 
 -- ---- the whole text
@@ -165,10 +166,10 @@ unfolding openingOf
 mapping-answered messages text = go (eqb (openingOf mappingHeader text .number) 0) refl
   where
     go : (t : Bool) → eqb (openingOf mappingHeader text .number) 0 ≡ t
-        → BadOpening text (readMapping messages text) ⊎ (Opens mappingHeader text × LinesAnswered messages text (readMapping messages text))
+        → BadMapOpening text (readMapping messages text) ⊎ (Opens mappingHeader text × MapsAnswered messages text (readMapping messages text))
     go true e =
         let z = eqb-true (openingOf mappingHeader text .number) 0 e in
-        inr (z, subst (LinesAnswered messages text) (sym (reading-opened messages text z)) (answered (drop 1 (lines text)) messages 2 []))
+        inr (z, subst (MapsAnswered messages text) (sym (reading-opened messages text z)) (answered (drop 1 (lines text)) messages 2 []))
     go false e =
         let z = eqb-false (openingOf mappingHeader text .number) 0 e in
         inl (record { told = only-given (openingChecks mappingHeader text) (openingOf mappingHeader text .number) refl z; is = reading-refused messages text z })
@@ -176,18 +177,18 @@ mapping-answered messages text = go (eqb (openingOf mappingHeader text .number) 
 -- a mapping that is not refused gives each message a network
 pub mapping-accepted : MappingAccepted
 mapping-accepted messages text h =
-    ⊎-elim (λ (w : BadOpening text (readMapping messages text)). absurd (numbered (openingChecks mappingHeader text) (openingOf mappingHeader text) (opening-rows mappingHeader text) (w .told) (sym (ap (λ (r : Mapped). r .number) (w .is)) ∙ h)))
-    (λ (v : Opens mappingHeader text × LinesAnswered messages text (readMapping messages text)).
-    ⊎-elim (λ (w : Accepted messages 2 (drop 1 (lines text)) [] (readMapping messages text)). w)
-    (⊎-elim (λ (w : BadLine messages 2 (drop 1 (lines text)) (readMapping messages text)). absurd (w .bad (sym (ap (λ (r : Mapped). r .number) (w .is)) ∙ h)))
-    (λ (w : EndsEarly messages 2 (drop 1 (lines text)) (readMapping messages text)). absurd (omega (arith, ap (λ (r : Mapped). r .number) (w .is))))) (v .1))
+    ⊎-elim (λ (w : BadMapOpening text (readMapping messages text)). absurd (numbered (openingChecks mappingHeader text) (openingOf mappingHeader text) (opening-rows mappingHeader text) (w .told) (sym (ap (λ (r : Mapped). r .refusal .number) (w .is)) ∙ h)))
+    (λ (v : Opens mappingHeader text × MapsAnswered messages text (readMapping messages text)).
+    ⊎-elim (λ (w : MapsAccepted messages 2 (drop 1 (lines text)) [] (readMapping messages text)). w)
+    (⊎-elim (λ (w : BadMap messages 2 (drop 1 (lines text)) (readMapping messages text)). absurd (w .bad (sym (ap (λ (r : Mapped). r .refusal .number) (w .is)) ∙ h)))
+    (λ (w : MapsEndEarly messages 2 (drop 1 (lines text)) (readMapping messages text)). absurd (omega (arith, ap (λ (r : Mapped). r .refusal .number) (w .is))))) (v .1))
     (mapping-answered messages text)
 
 -- the row of a bad line
 pub bad-told : BadTold
-unfolding lineRefusal
+unfolding mapRefusal
 bad-told next k ls r w =
-    let cs = lineChecks (drop (w .place) next) (k + w .place) (split 9 (getD ls (w .place) [])) in
+    let cs = mapChecks (drop (w .place) next) (k + w .place) (split 9 (getD ls (w .place) [])) in
     only-given cs (firstOf cs .number) refl (w .bad)
 
 -- ---- the networks that are given
@@ -197,7 +198,7 @@ pad-at [] n i = getD-zeros n i
 pad-at (x ∷ l) n zero = refl
 pad-at (x ∷ l) n (suc i) = pad-at l n i
 
-module _ (next : List MessageRow) (k : ℕ) (ls : List (List ℕ)) (r : Mapped) (a : Accepted next k ls [] r) where
+module _ (next : List MessageRow) (k : ℕ) (ls : List (List ℕ)) (r : Mapped) (a : MapsAccepted next k ls [] r) where
   pub network-at : (i : ℕ) → getD (r .networks) i (networkNo 0) ≡ networkNo (getD (a .ns) i 0)
   network-at i =
       ap (λ (m : Mapped). getD (m .networks) i (networkNo 0)) (a .is)

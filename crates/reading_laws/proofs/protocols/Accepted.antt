@@ -44,7 +44,7 @@ accepted-kept text z =
     subst AcceptedReading (sym (w .is)) (record { line = refl; kept = k; some = some; entries = all-entries t (w .whole) k; relations = relations-accepted t (k .ok) some })
 
 -- what a call asks of the tables that it got
-pub call-ready : (text : List ℕ) (x : Reading) → x ≡ readProtocol text → x .number ≡ 0 → TablesOk (x .tables) × (0 < x .tables .«message_count»)
+pub call-ready : (text : List ℕ) (x : Reading) → x ≡ readProtocol text → x .refusal .number ≡ 0 → TablesOk (x .tables) × (0 < x .tables .«message_count»)
 call-ready text x is z =
-    let good = accepted-kept text (ap (λ (y : Reading). y .number) (sym is) ∙ z) in
+    let good = accepted-kept text (ap (λ (y : Reading). y .refusal .number) (sym is) ∙ z) in
     subst (λ (y : Reading). TablesOk (y .tables) × (0 < y .tables .«message_count»)) (sym is) (good .kept .ok, good .some)

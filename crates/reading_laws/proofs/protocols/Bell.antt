@@ -19,7 +19,7 @@ use Rattle.protocol.specs.sections.Lines.{readLines}
 use Rattle.protocol.specs.Reading.{readProtocol}
 use Rattle.reading_laws.specs.protocols.Bell.{bellText}
 
-pub bell-accepted : readProtocol bellText .number ≡ 0
+pub bell-accepted : readProtocol bellText .refusal .number ≡ 0
 unfolding sameText split lines firstIndex howMany nameOf nameRule nameByte every firstOf openingOf clearedTables withMessage withEvent withState withCell cellsOf sentOf anyClash messageAt eventAt stateAt sectionOf messageOf eventOf stateOf cellOf sentOfLine allMessages inStable lineRefusal noEntryAt wholeRefusal readLines readProtocol decide ℕ-discrete some? goes-to? is-stall? is-message? enters? any-carrier? opens? any-carries? no-entry?
 bell-accepted = refl
 

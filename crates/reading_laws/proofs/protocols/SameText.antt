@@ -31,23 +31,20 @@ use Rattle.reading_laws.proofs.protocols.WrittenRecords.{grown, sized-c
 
 -- ---- nothing was refused
 
-pub unless-number : (r : Refusal) (a : Reading) → unless r a .number ≡ 0 → (r .number ≡ 0) × (unless r a ≡ a)
+pub unless-number : (r : Refusal) (a : Reading) → unless r a .refusal .number ≡ 0 → (r .number ≡ 0) × (unless r a ≡ a)
 unless-number r a e = go (eqb (r .number) 0) refl e
   where
-    go : (b : Bool) → eqb (r .number) 0 ≡ b → cond b a (refused r) .number ≡ 0 → (r .number ≡ 0) × (cond b a (refused r) ≡ a)
+    go : (b : Bool) → eqb (r .number) 0 ≡ b → cond b a (refused r) .refusal .number ≡ 0 → (r .number ≡ 0) × (cond b a (refused r) ≡ a)
     go true q k = (eqb-true (r .number) 0 q, refl)
     go false q k = absurd (eqb-false (r .number) 0 q k)
 
 passed-line : (t : Tables) (k : ℕ) (l : List ℕ) → lineRefusal t k (split 9 l) .number ≡ 0 → Passed (sectionOf (split 9 l)) t (split 9 l)
-passed-line t k l e =
-    let n = lineNumber (sectionOf (split 9 l)) t (split 9 l) in
-    let r = refuses l t (sectionOf (split 9 l)) n refl refl in
-    line-passed t l n r (sym (tells-number n k) ∙ sym (ap (λ (x : Refusal). x .number) (r k)) ∙ e)
+passed-line t k l e = line-passed t k l (lineRefusal t k (split 9 l)) refl e
 
 -- ---- the lines
 
 -- what was read are the records of the lines
-pub read-records : (k : ℕ) (ls : List (List ℕ)) (t : Tables) → Sized t → readLines k ls t .number ≡ 0
+pub read-records : (k : ℕ) (ls : List (List ℕ)) (t : Tables) → Sized t → readLines k ls t .refusal .number ≡ 0
     → records (readLines k ls t .tables) ≡ records t ++ map (split 9) ls
 unfolding readLines
 read-records k [] t z e =
@@ -58,7 +55,7 @@ read-records k (l ∷ ls) t z e =
     let q = unless-number (lineRefusal t k f) (readLines (suc k) ls (stored t f)) e in
     let g = grown t z f (sectionOf f) refl (passed-line t k l (q .0)) in
     ap (λ (r : Reading). records (r .tables)) (q .1)
-    ∙ read-records (suc k) ls (stored t f) (g .sized) (ap (λ (r : Reading). r .number) (sym (q .1)) ∙ e)
+    ∙ read-records (suc k) ls (stored t f) (g .sized) (ap (λ (r : Reading). r .refusal .number) (sym (q .1)) ∙ e)
     ∙ ap (λ (rs : List Line). rs ++ map (split 9) ls) (g .more) ∙ append-assoc (records t) (f ∷ []) (map (split 9) ls)
 
 -- ---- the text
@@ -69,7 +66,7 @@ written x e =
     let ls = drop 1 (lines x) in
     let q = unless-number (openingOf protocolHeader x) (readLines 2 ls clearedTables) e in
     let o = opened protocolHeader x (q .0) in
-    let rs = read-records 2 ls clearedTables sized-cleared (ap (λ (r : Reading). r .number) (sym (q .1)) ∙ e) in
+    let rs = read-records 2 ls clearedTables sized-cleared (ap (λ (r : Reading). r .refusal .number) (sym (q .1)) ∙ e) in
     let all : records (readProtocol x .tables) ≡ map (split 9) ls =
     ap (λ (r : Reading). records (r .tables)) (q .1) ∙ rs ∙ ap (λ (a : List Line). a ++ map (split 9) ls) records-cleared in
     sym (ended-lines x (getD-within x (length x - 1) 10 0 (omega (arith, o .some)) ∙ o .last))

@@ -189,8 +189,8 @@ module _ (text : List ℕ) where
   why-whole (suc (suc i)) u h e = absurd (omega arith)
 
   -- what is answered, for a refusal
-  answer-told : (r : Refusal) (a : Reading) → a ≡ refused r → Told r → Why text (a .number) (a .line)
-  answer-told r a e w = subst (λ (x : Reading). Why text (x .number) (x .line)) (sym e) w
+  answer-told : (r : Refusal) (a : Reading) → a ≡ refused r → Told r → Why text (a .refusal .number) (a .refusal .line)
+  answer-told r a e w = subst (λ (x : Reading). Why text (x .refusal .number) (x .refusal .line)) (sym e) w
 
 pub only-under-its-row : OnlyUnderItsRow
 only-under-its-row text z =
@@ -199,7 +199,7 @@ only-under-its-row text z =
     (λ (w : BadOpening text a).
     answer-told text (openingOf protocolHeader text) a (w .is)
     (subst (Told text) (sym (w .told .is)) (why-opening text (w .told .place) (w .told .first .below) (w .told .first .given))))
-    (⊎-elim (λ (w : AllRead clearedTables 2 (linesOf text) a). absurd (z (ap (λ (r : Reading). r .number) (w .is))))
+    (⊎-elim (λ (w : AllRead clearedTables 2 (linesOf text) a). absurd (z (ap (λ (r : Reading). r .refusal .number) (w .is))))
     (⊎-elim
     (λ (w : BadLine clearedTables 2 (linesOf text) a).
     answer-told text (refusalAt clearedTables 2 (linesOf text) (w .place)) a (w .is)
@@ -213,7 +213,7 @@ pub refused-cleared : RefusedCleared
 refused-cleared text z =
     let a = readProtocol text in
     ⊎-elim (λ (w : BadOpening text a). ap (λ (r : Reading). r .tables) (w .is))
-    (⊎-elim (λ (w : AllRead clearedTables 2 (linesOf text) a). absurd (z (ap (λ (r : Reading). r .number) (w .is))))
+    (⊎-elim (λ (w : AllRead clearedTables 2 (linesOf text) a). absurd (z (ap (λ (r : Reading). r .refusal .number) (w .is))))
     (⊎-elim (λ (w : BadLine clearedTables 2 (linesOf text) a). ap (λ (r : Reading). r .tables) (w .is))
     (λ (w : BadWhole clearedTables 2 (linesOf text) a). ap (λ (r : Reading). r .tables) (w .is))))
     (answer text)
@@ -237,16 +237,16 @@ whole-rows t (suc zero) h q = omega arith
 whole-rows t (suc (suc i)) h q = omega arith
 
 -- a text that is not refused has all its lines read
-pub all-read : (text : List ℕ) → readProtocol text .number ≡ 0 → AllRead clearedTables 2 (linesOf text) (readProtocol text)
+pub all-read : (text : List ℕ) → readProtocol text .refusal .number ≡ 0 → AllRead clearedTables 2 (linesOf text) (readProtocol text)
 all-read text z =
     let a = readProtocol text in
-    ⊎-elim (λ (w : BadOpening text a). absurd (numbered (openingChecks protocolHeader text) (openingOf protocolHeader text) (opening-rows protocolHeader text) (w .told) (sym (ap (λ (r : Reading). r .number) (w .is)) ∙ z)))
+    ⊎-elim (λ (w : BadOpening text a). absurd (numbered (openingChecks protocolHeader text) (openingOf protocolHeader text) (opening-rows protocolHeader text) (w .told) (sym (ap (λ (r : Reading). r .refusal .number) (w .is)) ∙ z)))
     (⊎-elim (λ (w : AllRead clearedTables 2 (linesOf text) a). w)
     (⊎-elim
     (λ (w : BadLine clearedTables 2 (linesOf text) a).
     absurd (numbered (lineChecks (after (w .place) (linesOf text) clearedTables) (2 + w .place) (fieldsAt (linesOf text) (w .place)))
     (refusalAt clearedTables 2 (linesOf text) (w .place)) (line-rows (after (w .place) (linesOf text) clearedTables) (2 + w .place) (fieldsAt (linesOf text) (w .place))) (w .told)
-    (sym (ap (λ (r : Reading). r .number) (w .is)) ∙ z)))
+    (sym (ap (λ (r : Reading). r .refusal .number) (w .is)) ∙ z)))
     (λ (w : BadWhole clearedTables 2 (linesOf text) a).
-    absurd (numbered (wholeChecks (atEnd text)) (wholeRefusal (atEnd text)) (whole-rows (atEnd text)) (w .told) (sym (ap (λ (r : Reading). r .number) (w .is)) ∙ z)))))
+    absurd (numbered (wholeChecks (atEnd text)) (wholeRefusal (atEnd text)) (whole-rows (atEnd text)) (w .told) (sym (ap (λ (r : Reading). r .refusal .number) (w .is)) ∙ z)))))
     (answer text)

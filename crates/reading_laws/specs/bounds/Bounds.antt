@@ -16,10 +16,10 @@ abbrev pub Low : ℕ → ℕ → Type 0
 Low number line = (number ≤ 15) × (line ≤ 49153)
 
 abbrev pub ProtocolLow : Type 0
-ProtocolLow = (text : List ℕ) → Low (readProtocol text .number) (readProtocol text .line)
+ProtocolLow = (text : List ℕ) → Low (readProtocol text .refusal .number) (readProtocol text .refusal .line)
 
 abbrev pub MappingLow : Type 0
-MappingLow = (messages : List MessageRow) (text : List ℕ) → Low (readMapping messages text .number) (readMapping messages text .line)
+MappingLow = (messages : List MessageRow) (text : List ℕ) → Low (readMapping messages text .refusal .number) (readMapping messages text .refusal .line)
 
 -- The rows of messages: there are 32, the name of each declared message keeps the name rule, and no row has a longer name.
 pub record Named (t : Tables) : Type 0 where
@@ -29,4 +29,4 @@ pub record Named (t : Tables) : Type 0 where
 
 -- So it is with the tables of an accepted text.
 abbrev pub NamesKept : Type 0
-NamesKept = (text : List ℕ) → readProtocol text .number ≡ 0 → Named (readProtocol text .tables)
+NamesKept = (text : List ℕ) → readProtocol text .refusal .number ≡ 0 → Named (readProtocol text .tables)

@@ -125,20 +125,20 @@ pub data Why (text : List ℕ) : ℕ → ℕ → Type 0 where
 
 -- "Each refusal is given only under its row."
 abbrev pub OnlyUnderItsRow : Type 0
-OnlyUnderItsRow = (text : List ℕ) → (readProtocol text .number ≡ 0 → ⊥) → Why text (readProtocol text .number) (readProtocol text .line)
+OnlyUnderItsRow = (text : List ℕ) → (readProtocol text .refusal .number ≡ 0 → ⊥) → Why text (readProtocol text .refusal .number) (readProtocol text .refusal .line)
 
 -- ---- what is accepted
 
 pub record AcceptedReading (r : Reading) : Type 0 where
-  pub line : r .line ≡ 0
+  pub line : r .refusal .line ≡ 0
   pub kept : Kept (r .tables)
   pub some : 0 < r .tables .«message_count»
   pub entries : (i : ℕ) → i < r .tables .«cell_count» → ¬ NoEntry (cellsOf (r .tables)) (cellAt (r .tables) i)
   pub relations : Accepted (relationsOfTables (r .tables))
 
 abbrev pub AcceptedKept : Type 0
-AcceptedKept = (text : List ℕ) → readProtocol text .number ≡ 0 → AcceptedReading (readProtocol text)
+AcceptedKept = (text : List ℕ) → readProtocol text .refusal .number ≡ 0 → AcceptedReading (readProtocol text)
 
 -- A refusal leaves tables as they were cleared.
 abbrev pub RefusedCleared : Type 0
-RefusedCleared = (text : List ℕ) → (readProtocol text .number ≡ 0 → ⊥) → readProtocol text .tables ≡ clearedTables
+RefusedCleared = (text : List ℕ) → (readProtocol text .refusal .number ≡ 0 → ⊥) → readProtocol text .tables ≡ clearedTables

@@ -108,12 +108,12 @@ protocolText t = ended (protocolHeader ∷ map tabbed (records t))
 
 -- "Reading an accepted text and writing it must return the same bytes."
 abbrev pub WrittenBack : Type 0
-WrittenBack = (x : List ℕ) → readProtocol x .number ≡ 0 → x ≡ protocolText (readProtocol x .tables)
+WrittenBack = (x : List ℕ) → readProtocol x .refusal .number ≡ 0 → x ≡ protocolText (readProtocol x .tables)
 
 -- "Reading what was written must return the same tables."
 abbrev pub ReadAgain : Type 0
-ReadAgain = (x : List ℕ) → readProtocol x .number ≡ 0 → readProtocol (protocolText (readProtocol x .tables)) ≡ readProtocol x
+ReadAgain = (x : List ℕ) → readProtocol x .refusal .number ≡ 0 → readProtocol (protocolText (readProtocol x .tables)) ≡ readProtocol x
 
 -- "Two texts give the same tables only when they are the same text."
 abbrev pub SameText : Type 0
-SameText = (x y : List ℕ) → readProtocol x .number ≡ 0 → readProtocol y .number ≡ 0 → readProtocol x .tables ≡ readProtocol y .tables → x ≡ y
+SameText = (x y : List ℕ) → readProtocol x .refusal .number ≡ 0 → readProtocol y .refusal .number ≡ 0 → readProtocol x .tables ≡ readProtocol y .tables → x ≡ y
