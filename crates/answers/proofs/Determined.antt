@@ -8,14 +8,15 @@ use lib.Dec.{ltb}
 use borrow.Author.Tests.{ltb-true, ltb-false}
 use Rattle.determined.specs.Determined.{Determines, DeterminesLent}
 use Rattle.determined.proofs.Equal.{equal}
+use Rattle.papers.specs.declared.Refusal.{Refusal}
 use Rattle.answers.specs.declared.Answer.{Answer}
 use Rattle.answers.specs.Answers.{refusedAt, noRoom, finished, packedAnswer, Refused, Listed}
 use Rattle.text.specs.Written.{Wrote}
 use Rattle.text.proofs.Determined.{wrote-determined}
 use Rattle.answers.specs.refused_text.RefusedText.{refusedText}
 
-pub refused-determined : (number paper line : ℕ) → Determines (λ (r : Answer). r ≡ refusedAt number paper line)
-refused-determined number paper line = equal _
+pub refused-determined : (why : Refusal) (paper : ℕ) → Determines (λ (r : Answer). r ≡ refusedAt why paper)
+refused-determined why paper = equal _
 
 pub no-room-determined : (needed : ℕ) → Determines (λ (r : Answer). r ≡ noRoom needed)
 no-room-determined needed = equal _
@@ -28,8 +29,8 @@ packed-determined a = equal _
 
 -- ---- refusals
 
-pub refusal-determined : (number paper line : ℕ) (old : List ℕ) → DeterminesLent (Refused number paper line old)
-refusal-determined number paper line old new new′ r r′ v w = (equal _ r r′ (v .answer) (w .answer), equal _ new new′ (v .bytes) (w .bytes))
+pub refusal-determined : (why : Refusal) (paper : ℕ) (old : List ℕ) → DeterminesLent (Refused why paper old)
+refusal-determined why paper old new new′ r r′ v w = (equal _ r r′ (v .answer) (w .answer), equal _ new new′ (v .bytes) (w .bytes))
 
 -- ---- listings
 
@@ -47,7 +48,7 @@ listed-determined listing old new new′ r r′ v w = go (ltb (length old) (leng
     go true e = short listing old new new′ r r′ v w (ltb-true (length old) (length listing) e)
     go false e = long listing old new new′ r r′ v w (ltb-false (length old) (length listing) e)
 
--- ---- What the contract allows is one answer: two results that meet it are equal, and so is every lent byte.
+-- ---- the line of a refusal
 
-pub put-refused-determined : (number paper line : ℕ) (old : List ℕ) → DeterminesLent (Wrote (refusedText number paper line) old)
-put-refused-determined number paper line = wrote-determined (refusedText number paper line)
+pub put-refused-determined : (why : Refusal) (paper : ℕ) (old : List ℕ) → DeterminesLent (Wrote (refusedText why paper) old)
+put-refused-determined why paper = wrote-determined (refusedText why paper)

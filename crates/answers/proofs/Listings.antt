@@ -5,6 +5,7 @@ use mathlib.Core.List.{List}
 use lib.ListN.{length}
 use native.Mathlib.Omega.{arith}
 use Rattle.text.specs.Written.{Wrote}
+use Rattle.papers.specs.declared.Refusal.{Refusal}
 use Rattle.answers.specs.declared.Answer.{Answer}
 use Rattle.answers.specs.Answers.{refusedAt, noRoom, finished, Refused, Listed}
 
@@ -21,15 +22,13 @@ listing-written listing old new n r h w q =
     record { no-room = λ k. absurd (omega arith); room = λ k. record { answer = q ∙ ap finished (w .count); bytes = w .bytes } }
 
 -- there was room, and the listing was written
-pub listed-wrote : (listing old new : List ℕ) (r : Answer) → length listing ≤ length old → Listed listing old new r → (r .number ≡ 0) × Wrote listing old new (r .length)
+pub listed-wrote : (listing old new : List ℕ) (r : Answer) → length listing ≤ length old → Listed listing old new r → (r .refusal .number ≡ 0) × Wrote listing old new (r .length)
 unfolding finished
 listed-wrote listing old new r h l =
     let w = l .room h in
-    (ap (λ (a : Answer). a .number) (w .answer), record { count = ap (λ (a : Answer). a .length) (w .answer); bytes = w .bytes })
+    (ap (λ (a : Answer). a .refusal .number) (w .answer), record { count = ap (λ (a : Answer). a .length) (w .answer); bytes = w .bytes })
 
 -- a refusal, and what is written for it
-pub refused-parts : (number paper line : ℕ) (old new : List ℕ) (r : Answer) → Refused number paper line old new r
-    → (r .number ≡ number) × (r .paper ≡ paper) × (r .line ≡ line)
+pub refused-parts : (why : Refusal) (paper : ℕ) (old new : List ℕ) (r : Answer) → Refused why paper old new r → (r .refusal ≡ why) × (r .paper ≡ paper)
 unfolding refusedAt
-refused-parts number paper line old new r w =
-    (ap (λ (a : Answer). a .number) (w .answer), ap (λ (a : Answer). a .paper) (w .answer), ap (λ (a : Answer). a .line) (w .answer))
+refused-parts why paper old new r w = (ap (λ (a : Answer). a .refusal) (w .answer), ap (λ (a : Answer). a .paper) (w .answer))

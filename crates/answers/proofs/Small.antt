@@ -1,20 +1,21 @@
 -- The numbers of an answer are small where those it is made of are.
 use Prim.Native.Nat.{ℕ, _<_, _≤_}
 use mathlib.Core.Path.{_≡_, refl, sym, subst}
-use mathlib.Core.Bool.{Bool, true, false}
+use mathlib.Core.Bool.{Bool, true, false, cond}
 use mathlib.Core.List.{List}
 use native.Mathlib.Omega.{arith}
 use lib.ListN.{length}
 use lib.Dec.{eqb, ltb}
 use borrow.Author.Tests.{ltb-true, ltb-false}
+use Rattle.papers.specs.declared.Refusal.{Refusal}
 use Rattle.answers.specs.declared.Answer.{Answer}
-use Rattle.answers.specs.Answers.{refusedAt, noRoom, finished, Listed, Small, shownLength, pickNumber}
+use Rattle.answers.specs.Answers.{refusedAt, noRoom, finished, Listed, Small, shownLength}
 
-pub small-refused : (number paper line : ℕ) (r : Answer) → number ≤ 15 → paper < 256 → line ≤ 49153 → r ≡ refusedAt number paper line → Small r
+pub small-refused : (why : Refusal) (paper : ℕ) (r : Answer) → why .number ≤ 15 → paper < 256 → why .line ≤ 49153 → r ≡ refusedAt why paper → Small r
 unfolding refusedAt shownLength
-small-refused number paper line r h k g e = subst Small (sym e) (record { number = omega (arith, h); paper = k; line = omega (arith, g); length = go (eqb number 16) })
+small-refused why paper r h k g e = subst Small (sym e) (record { number = omega (arith, h); paper = k; line = omega (arith, g); length = go (eqb (why .number) 16) })
   where
-    go : (b : Bool) → pickNumber b 0 0 < 65536
+    go : (b : Bool) → cond b 0 0 < 65536
     go true = omega arith
     go false = omega arith
 

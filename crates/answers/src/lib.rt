@@ -3,15 +3,14 @@ pub mod refused_text;
 
 ghost use mathlib.Core.Path.{_≡_};
 ghost use Rattle.answers.specs.Answers.{refusedAt, noRoom, finished, Small, shownLength, packedAnswer};
+use papers::Refusal;
 
 // The answer of a call on texts. Every number is 0 unless the paper says otherwise.
 pub struct Answer {
-    // the refusal number, 0 on success
-    pub number: u8,
+    // why and where a paper is refused; its number is 0 on success
+    pub refusal: Refusal,
     // the paper that is refused: 0 the protocol, 1 the mapping
     pub paper: u8,
-    // the line that is refused
-    pub line: usize,
     // how many bytes are written
     pub length: usize,
     // with refusal 16, the length needed
@@ -19,13 +18,12 @@ pub struct Answer {
 }
 
 // A refusal of a paper.
-pub fn refused(number: u8, paper: u8, line: usize) -> Answer
-    ensures { λ r. ⌜ r ≡ refusedAt number paper line ⌝ }
+pub fn refused(why: Refusal, paper: u8) -> Answer
+    ensures { λ r. ⌜ r ≡ refusedAt why paper ⌝ }
 {
     Answer {
-        number: number,
+        refusal: why,
         paper: paper,
-        line: line,
         length: 0,
         needed: 0,
     }
@@ -36,9 +34,11 @@ pub fn no_room(needed: usize) -> Answer
     ensures { λ r. ⌜ r ≡ noRoom needed ⌝ }
 {
     Answer {
-        number: 16,
+        refusal: Refusal {
+            number: papers::ROOM,
+            line: 0,
+        },
         paper: 0,
-        line: 0,
         length: 0,
         needed: needed,
     }
@@ -49,9 +49,8 @@ pub fn listed(length: usize) -> Answer
     ensures { λ r. ⌜ r ≡ finished length ⌝ }
 {
     Answer {
-        number: 0,
+        refusal: Refusal { number: 0, line: 0 },
         paper: 0,
-        line: 0,
         length: length,
         needed: 0,
     }
@@ -61,7 +60,7 @@ pub fn listed(length: usize) -> Answer
 fn shown_length(a: Answer) -> usize
     ensures { λ r. ⌜ r ≡ shownLength a ⌝ }
 {
-    if a.number == 16 {
+    if a.refusal.number == papers::ROOM {
         return a.needed;
     }
     a.length
@@ -72,9 +71,9 @@ pub fn packed(a: Answer) -> u64
     requires { ⌜ Small a ⌝ }
     ensures { λ r. ⌜ r ≡ packedAnswer a ⌝ }
 {
-    let number = a.number as u64;
+    let number = a.refusal.number as u64;
     let paper = a.paper as u64;
-    let line = a.line as u64;
+    let line = a.refusal.line as u64;
     let length = shown_length(a) as u64;
     number + paper * 256 + line * 65536 + length * 4294967296
 }

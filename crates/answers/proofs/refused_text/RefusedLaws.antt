@@ -6,6 +6,7 @@ use lib.ListN.{length, length-append}
 use Rattle.text.specs.Words.{refusedWord, tab, newline}
 use Rattle.text.specs.Written.{decimal, Wrote, Pasted}
 use Rattle.text.proofs.Written.{more-room, then-more, next-room, pasted-next}
+use Rattle.papers.specs.Checks.{refusal}
 use Rattle.answers.specs.refused_text.RefusedText.{tabbedNumber, refusedText}
 
 module _ (n at : ℕ) (old : List ℕ) (room : at + length (tabbedNumber n) ≤ length old) where
@@ -22,7 +23,7 @@ module _ (n at : ℕ) (old : List ℕ) (room : at + length (tabbedNumber n) ≤ 
     unfolding tabbedNumber
     tabbed new₂ c w = pasted-next tab (decimal n) old new at b room v new₂ c w
 
-module _ (n p l : ℕ) (old : List ℕ) (room : length (refusedText n p l) ≤ length old) where
+module _ (n p l : ℕ) (old : List ℕ) (room : length (refusedText (refusal n l) p) ≤ length old) where
   abbrev to-number : List ℕ
   to-number = refusedWord ++ tabbedNumber n
 
@@ -71,6 +72,6 @@ module _ (n p l : ℕ) (old : List ℕ) (room : length (refusedText n p l) ≤ l
     unfolding refusedText
     end-next = more-room to-line newline old new a room w
 
-    pub then-end : (new₂ : List ℕ) (b : ℕ) → Pasted newline a new new₂ b → Wrote (refusedText n p l) old new₂ b
+    pub then-end : (new₂ : List ℕ) (b : ℕ) → Pasted newline a new new₂ b → Wrote (refusedText (refusal n l) p) old new₂ b
     unfolding refusedText
     then-end = then-more to-line newline old new a room w

@@ -3,12 +3,13 @@ use Prim.Native.Nat.{ℕ, _<_, _≤_}
 use native.Mathlib.Omega.{arith}
 use lib.ListN.{length, length-append}
 use Rattle.text.proofs.Written.{decimal-length}
+use Rattle.papers.specs.declared.Refusal.{Refusal}
 use Rattle.answers.specs.refused_text.RefusedText.{tabbedNumber, refusedText}
 
-pub refused-short : (number paper line : ℕ) → number < 100 → paper < 10 → line < 100000 → length (refusedText number paper line) ≤ 20
+pub refused-short : (why : Refusal) (paper : ℕ) → why .number < 100 → paper < 10 → why .line < 100000 → length (refusedText why paper) ≤ 20
 unfolding refusedText tabbedNumber
-refused-short number paper line h k g =
-    let a = decimal-length 1 number h in
+refused-short why paper h k g =
+    let a = decimal-length 1 (why .number) h in
     let b = decimal-length 0 paper k in
-    let c = decimal-length 4 line g in
+    let c = decimal-length 4 (why .line) g in
     simp length-append (omega arith)

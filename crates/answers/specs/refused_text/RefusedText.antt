@@ -3,10 +3,11 @@ use Prim.Native.Nat.{ℕ}
 use mathlib.Core.List.{List, _++_}
 use Rattle.text.specs.Words.{refusedWord, tab, newline}
 use Rattle.text.specs.Written.{decimal}
+use Rattle.papers.specs.declared.Refusal.{Refusal}
 
 -- A tab, and a number behind it.
 unfoldable pub tabbedNumber : ℕ → List ℕ
 tabbedNumber n = tab ++ decimal n
 
-unfoldable pub refusedText : ℕ → ℕ → ℕ → List ℕ
-refusedText number paper line = (((refusedWord ++ tabbedNumber number) ++ tabbedNumber paper) ++ tabbedNumber line) ++ newline
+unfoldable pub refusedText : Refusal → ℕ → List ℕ
+refusedText why paper = (((refusedWord ++ tabbedNumber (why .number)) ++ tabbedNumber paper) ++ tabbedNumber (why .line)) ++ newline
