@@ -6,9 +6,10 @@ ghost use mathlib.Core.Path.{_≡_};
 ghost use Prim.Native.Nat.{_+_, _<_, _≤_};
 ghost use lib.ListN.{length};
 ghost use Rattle.text.specs.Name.{nameText};
-ghost use Rattle.text.specs.Written.{Pasted};
+ghost use Rattle.text.specs.Written.{Wrote, Pasted};
 ghost use Rattle.plan_listing.specs.PlanText.{nameAt, firstMessages};
 ghost use Rattle.answers.specs.Answers.{Listed};
+ghost use Rattle.judge_listing.specs.fit.FitText.{verdictHead};
 ghost use Rattle.judge_listing.specs.step_lines.StepLine.{lineOf};
 ghost use Rattle.judge_listing.specs.JudgeText.{unfitText, stepText, stepTexts, wordIn};
 ghost use Rattle.judge_listing.specs.Steps.{GivenWalk, walkSteps, nextPlace, stepAt};
@@ -17,6 +18,22 @@ use answers::Answer;
 use rules::Message;
 use tables::MessageRow;
 use text::Name;
+
+// How many bytes the header and the verdict's line have, but for the verdict: the header and two ends of lines.
+pub(crate) const HEAD: usize = text::words::JUDGE_HEADER.len()
+    + text::words::NEWLINE.len()
+    + text::words::NEWLINE.len();
+
+// The header and the verdict's line, at the front of out.
+pub(crate) fn put_verdict(out: &mut [u8], verdict: &[u8]) -> usize
+    requires { ⌜ length (verdictHead (now verdict)) ≤ length (now out) ⌝ }
+    ensures { λ r. ⌜ Wrote (verdictHead (now (verdict .entry))) (now (out .entry)) (now (out .exit)) r ⌝ }
+{
+    let a = text::put(out, &text::words::JUDGE_HEADER);
+    let b = text::writers::more(out, a, &text::words::NEWLINE);
+    let c = text::writers::more(out, b, verdict);
+    text::writers::more(out, c, &text::words::NEWLINE)
+}
 
 // The name of a message.
 fn name_of(messages: [MessageRow; 32], m: Message) -> Name
@@ -59,6 +76,9 @@ fn step_at(
     }
 }
 
+// How many bytes of the listing of an unfit mapping stand before its steps: the head, and `unfit` in it.
+const BEFORE_STEPS: usize = HEAD + text::words::UNFIT.len();
+
 // How many bytes the listing of an unfit mapping has.
 fn unfit_length(
     messages: [MessageRow; 32],
@@ -69,7 +89,7 @@ fn unfit_length(
     requires { ⌜ GivenWalk count cycle ⌝ }
     ensures { λ r. ⌜ r ≡ length (unfitText messages (walkSteps waits count cycle)) ⌝ }
 {
-    let mut n = 17;
+    let mut n = BEFORE_STEPS;
     let mut counted = 0;
     while counted < count {
         n += crate::step_lines::step_length(step_at(messages, cycle, count, waits, counted));
@@ -115,7 +135,7 @@ pub fn unfit_listing(
     if out.len() < needed {
         return answers::no_room(needed);
     }
-    let at = text::put(out, b"vn-judge\t1\nunfit\n");
+    let at = put_verdict(out, &text::words::UNFIT);
     let end = more_steps(out, at, messages, cycle, length, waits);
     answers::listed(end)
 }
