@@ -1,16 +1,12 @@
 -- What was found out and written is a judgement.
-use Prim.Native.Nat.{ℕ, _/_, _%_, _^_}
+use Prim.Native.Nat.{ℕ}
 use mathlib.Core.Path.{_≡_, refl, ap, sym, _∙_, subst}
-use mathlib.Core.Bool.{Bool, true, false}
 use mathlib.Core.Logic.{_≢_, inl, inr, ⊎-elim}
 use mathlib.Core.List.{List, [], _∷_, _++_}
 use native.Mathlib.Omega.{arith}
-use lib.ListN.{getD}
-use lib.Dec.{eqb}
-use borrow.Author.Tests.{eqb-true, eqb-false}
 use Rattle.rules.specs.Walks.{Chain}
-use Rattle.rules.specs.Rules.{MessageNo, Relations, Mapping, Waits, Step}
-use Rattle.rules.specs.Plan.{Closed, Says, waits}
+use Rattle.rules.specs.Rules.{MessageNo, Relations, Mapping, Waits, Queues, Step}
+use Rattle.rules.specs.Plan.{Closed, Word, Says}
 use Rattle.rules.proofs.Promises.{shown-is-real}
 use Rattle.tables.specs.declared.Tables.{Tables}
 use Rattle.tables.specs.Cells.{relationsOfTables}
@@ -21,9 +17,9 @@ use Rattle.mapping.specs.declared.Mapped.{Mapped}
 use Rattle.answers.specs.Answers.{refusedAt, Listed}
 use Rattle.plan_listing.specs.PlanText.{firstMessages}
 use Rattle.judge_listing.specs.fit.FitText.{fitText}
-use Rattle.judge_listing.specs.step_lines.StepLine.{pickWord}
-use Rattle.judge_listing.specs.JudgeText.{unfitText, wordIn, stepsFrom, stepsOf}
-use Rattle.judge_listing.specs.Steps.{GivenWalk, walkSteps}
+use Rattle.judge_listing.specs.JudgeText.{unfitText, wordIn, stepsFrom, stepsAround}
+use Rattle.judge_listing.specs.Places.{GivenWalk, walkSteps}
+use Rattle.judge_listing.proofs.Places.{word-by-bit}
 use Rattle.verdicts.specs.declared.Judged.{Judged as Found}
 use Rattle.verdicts.specs.Verdicts.{mappingOf, WaitsOf, Fitting, Unfitting, JudgedIs}
 use Rattle.judge.specs.Call.{Shows, ShowsAll, Judged, mappedFor, AfterProtocol, Call}
@@ -32,21 +28,17 @@ use Rattle.judge.specs.Call.{Shows, ShowsAll, Judged, mappedFor, AfterPr
 
 module _ (p : Relations) (φ : Mapping) (rows : List ℕ) (w : WaitsOf p rows) where
   says : (a b : MessageNo) → Step p φ a b → Says p φ a (wordIn rows a b) b
-  unfolding wordIn
-  says a b s = go (eqb (getD rows a 0 / 2 ^ b % 2) 1) refl s
-    where
-      go : (t : Bool) → eqb (getD rows a 0 / 2 ^ b % 2) 1 ≡ t → Step p φ a b → Says p φ a (pickWord t) b
-      go true e s = w a b .0 (eqb-true (getD rows a 0 / 2 ^ b % 2) 1 e)
-      go false e (inl h) = absurd (eqb-false (getD rows a 0 / 2 ^ b % 2) 1 e (w a b .1 h))
-      go false e (inr q) = (λ h. eqb-false (getD rows a 0 / 2 ^ b % 2) 1 e (w a b .1 h), q)
+  says a b s =
+      word-by-bit (λ (v : Word). Says p φ a v b) rows a b (λ h. w a b .0 h)
+      (λ g. ⊎-elim (λ (h : Waits p a b). absurd (g (w a b .1 h))) (λ (q : Queues p φ a b). (λ h. g (w a b .1 h), q)) s)
 
   shows : (a : MessageNo) (l : List MessageNo) → Chain (Step p φ) a l → Shows p φ a l (stepsFrom (wordIn rows) a l)
   unfolding stepsFrom
   shows a [] c = tt
   shows a (b ∷ l) c = (refl, refl, says a b (c .0), shows b l (c .1))
 
-  pub shows-all : (ms : List MessageNo) → Closed (Waits p) (Step p φ) ms → ShowsAll p φ ms (stepsOf (wordIn rows) ms)
-  unfolding stepsOf
+  pub shows-all : (ms : List MessageNo) → Closed (Waits p) (Step p φ) ms → ShowsAll p φ ms (stepsAround (wordIn rows) ms)
+  unfolding stepsAround
   shows-all [] c = c
   shows-all (a ∷ l) c = shows a (l ++ (a ∷ [])) (c .1)
 
@@ -69,13 +61,13 @@ module _ (t : Tables) (φ : Mapping) (v : Found) (is : JudgedIs (relationsOfTabl
       let w = unfitting h in
       let ms = firstMessages (v .length) (v .cycle) in
       record {
-        listing = unfitText (t .messages) (stepsOf (wordIn (v .waits)) ms);
+        listing = unfitText (t .messages) (stepsAround (wordIn (v .waits)) ms);
         allowed =
             inr (record {
               unfit = shown-is-real (relationsOfTables t) .1 φ ms (w .cycle);
               cycle = ms;
               shown = w .cycle;
-              steps = stepsOf (wordIn (v .waits)) ms;
+              steps = stepsAround (wordIn (v .waits)) ms;
               said = shows-all (relationsOfTables t) φ (v .waits) (is .waits) ms (w .cycle .closed);
               is = refl;
             });

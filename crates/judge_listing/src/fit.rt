@@ -3,7 +3,7 @@ ghost use Rattle.answers.specs.Answers.{Listed};
 ghost use Rattle.judge_listing.specs.fit.FitText.{fitText};
 use answers::Answer;
 
-// How many bytes that listing has: the head, and `fit` in it.
+// How many bytes the listing has: the head, and `fit` in it.
 const NEEDED: usize = crate::HEAD + text::words::FIT.len();
 
 // The listing of a fit mapping, if there is room for it.

@@ -3,24 +3,14 @@ ghost use mathlib.Core.Path.{_≡_};
 ghost use Prim.Native.Nat.{_+_, _≤_};
 ghost use lib.ListN.{length};
 ghost use Rattle.text.specs.Written.{Wrote, Pasted};
-ghost use Rattle.judge_listing.specs.step_lines.StepLine.{between, wordText, pickWord, lineOf};
+ghost use Rattle.judge_listing.specs.step_lines.StepLine.{between, wordText, wordOf, namedLine};
 use text::Name;
 
 // A step as its line shows it: two names, and whether the word between them is `waits`.
-pub struct Step {
+pub struct NamedStep {
     pub from: Name,
     pub waits: bool,
     pub to: Name,
-}
-
-// How many bytes the step's word has.
-fn word_length(waits: bool) -> usize
-    ensures { λ r. ⌜ (r ≡ length (wordText (pickWord waits))) × (r ≤ 6) ⌝ }
-{
-    if waits {
-        return text::words::WAITS.len();
-    }
-    text::words::QUEUES.len()
 }
 
 // How many bytes the line has beside its names and its word: `step`, a tab before each of the three, and the end of the line.
@@ -30,9 +20,19 @@ const FIXED: usize = text::words::STEP.len()
     + text::words::TAB.len()
     + text::words::NEWLINE.len();
 
-// How many bytes the step's line has.
-pub(crate) fn step_length(step: Step) -> usize
-    ensures { λ r. ⌜ (r ≡ length (lineOf step)) × (r ≤ 62) ⌝ }
+// How many bytes the step's word has.
+fn word_length(waits: bool) -> usize
+    ensures { λ r. ⌜ (r ≡ length (wordText (wordOf waits))) × (r ≤ 6) ⌝ }
+{
+    if waits {
+        return text::words::WAITS.len();
+    }
+    text::words::QUEUES.len()
+}
+
+// How many bytes the step's line has: at most 62, with two names of 24 bytes and the longer word.
+pub(crate) fn step_length(step: NamedStep) -> usize
+    ensures { λ r. ⌜ (r ≡ length (namedLine step)) × (r ≤ 62) ⌝ }
 {
     let from = step.from;
     let to = step.to;
@@ -41,8 +41,8 @@ pub(crate) fn step_length(step: Step) -> usize
 
 // The step's word, at a place of out.
 fn more_word(out: &mut [u8], at: usize, waits: bool) -> usize
-    requires { ⌜ at + length (wordText (pickWord waits)) ≤ length (now out) ⌝ }
-    ensures { λ r. ⌜ Pasted (wordText (pickWord waits)) at (now (out .entry)) (now (out .exit)) r ⌝ }
+    requires { ⌜ at + length (wordText (wordOf waits)) ≤ length (now out) ⌝ }
+    ensures { λ r. ⌜ Pasted (wordText (wordOf waits)) at (now (out .entry)) (now (out .exit)) r ⌝ }
 {
     if waits {
         return text::writers::more(out, at, &text::words::WAITS);
@@ -52,8 +52,8 @@ fn more_word(out: &mut [u8], at: usize, waits: bool) -> usize
 
 // The step's word between its tabs, at a place of out.
 fn more_between(out: &mut [u8], at: usize, waits: bool) -> usize
-    requires { ⌜ at + length (between (wordText (pickWord waits))) ≤ length (now out) ⌝ }
-    ensures { λ r. ⌜ Pasted (between (wordText (pickWord waits))) at (now (out .entry)) (now (out .exit)) r ⌝ }
+    requires { ⌜ at + length (between (wordText (wordOf waits))) ≤ length (now out) ⌝ }
+    ensures { λ r. ⌜ Pasted (between (wordText (wordOf waits))) at (now (out .entry)) (now (out .exit)) r ⌝ }
 {
     let a = text::writers::more(out, at, &text::words::TAB);
     let b = more_word(out, a, waits);
@@ -61,9 +61,9 @@ fn more_between(out: &mut [u8], at: usize, waits: bool) -> usize
 }
 
 // The step's line at the front of out.
-pub(crate) fn put_step(out: &mut [u8], step: Step) -> usize
-    requires { ⌜ length (lineOf step) ≤ length (now out) ⌝ }
-    ensures { λ r. ⌜ Wrote (lineOf step) (now (out .entry)) (now (out .exit)) r ⌝ }
+pub(crate) fn put_step(out: &mut [u8], step: NamedStep) -> usize
+    requires { ⌜ length (namedLine step) ≤ length (now out) ⌝ }
+    ensures { λ r. ⌜ Wrote (namedLine step) (now (out .entry)) (now (out .exit)) r ⌝ }
 {
     let from = step.from;
     let to = step.to;

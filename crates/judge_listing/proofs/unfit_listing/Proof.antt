@@ -8,14 +8,14 @@ use Rattle.text.specs.Words.{unfitWord}
 use Rattle.text.proofs.Written.{more-room, then-more}
 use Rattle.judge_listing.specs.fit.FitText.{verdictHead}
 use Rattle.judge_listing.specs.JudgeText.{stepTexts, unfitText}
-use Rattle.judge_listing.specs.Steps.{walkSteps}
+use Rattle.judge_listing.specs.Places.{walkSteps}
 use Rattle.answers.proofs.Listings.{listing-refused, listing-written}
 use borrow.Author.Needs.{needs}
 use Rattle.judge_listing.proofs.unfit_listing.Statement.{statement}
 use Rattle.judge_listing.proofs.unfit_listing.Tie as tie
 
 abbrev Lines : tie.Start → List ℕ
-Lines s = stepTexts (s .args .messages) (walkSteps (s .args .waits) (s .args .length) (s .args .cycle))
+Lines s = stepTexts (s .args .messages) (walkSteps (s .args .waits) (s .args .count) (s .args .cycle))
 
 abbrev old : tie.Start → List ℕ
 old s = s .args .out .now
@@ -42,7 +42,7 @@ returns : tie.Need-returns
 returns c =
     let n = c .before .before in
     let a = n .before .before .args in
-    listing-refused (unfitText (a .messages) (walkSteps (a .waits) (a .length) (a .cycle))) (a .out .now) (n .unfit-length .result) _ (n .unfit-length .ensures) (c .before .if1 .taken) (c .no-room .ensures)
+    listing-refused (unfitText (a .messages) (walkSteps (a .waits) (a .count) (a .cycle))) (a .out .now) (n .unfit-length .result) _ (n .unfit-length .ensures) (c .before .if1 .taken) (c .no-room .ensures)
 
 slice-aggregate-put-verdict : tie.Need-slice-aggregate-put-verdict
 slice-aggregate-put-verdict c = search needs

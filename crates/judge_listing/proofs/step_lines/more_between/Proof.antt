@@ -6,7 +6,7 @@ use native.Mathlib.Omega.{arith}
 use Rattle.text.specs.Words.{tab}
 use Rattle.text.specs.Written.{Pasted}
 use Rattle.text.proofs.Written.{next-room, pasted-next}
-use Rattle.judge_listing.specs.step_lines.StepLine.{wordText, pickWord}
+use Rattle.judge_listing.specs.step_lines.StepLine.{wordText, wordOf}
 use borrow.Author.Needs.{needs}
 use Rattle.judge_listing.proofs.step_lines.more_between.Statement.{statement}
 use Rattle.judge_listing.proofs.step_lines.more_between.Tie as tie
@@ -19,7 +19,7 @@ abbrev second : tie.After-more-word → tie.After-more
 second c = c .before .before .before .before
 
 abbrev word : tie.Start → List ℕ
-word s = wordText (pickWord (s .args .waits))
+word s = wordText (wordOf (s .args .waits))
 
 abbrev old : tie.Start → List ℕ
 old s = s .args .out .now

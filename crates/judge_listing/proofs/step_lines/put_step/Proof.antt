@@ -5,7 +5,7 @@ use lib.ListN.{length}
 use Rattle.plan_listing.proofs.Growing.{front-room}
 use Rattle.text.specs.Name.{nameText}
 use Rattle.text.specs.Words.{stepWord, tab, newline}
-use Rattle.judge_listing.specs.step_lines.StepLine.{stepLine, between, wordText, pickWord, lineOf}
+use Rattle.judge_listing.specs.step_lines.StepLine.{stepLine, between, wordText, wordOf, namedLine}
 use Rattle.judge_listing.proofs.Chains.{first-room, second-room, third-room, fourth-room, fifth-room, sixth-room, all-six}
 use borrow.Author.Needs.{needs}
 use Rattle.judge_listing.proofs.step_lines.put_step.Statement.{statement}
@@ -35,7 +35,7 @@ abbrev from : tie.Start → List ℕ
 from s = nameText (s .args .step .from)
 
 abbrev word : tie.Start → List ℕ
-word s = between (wordText (pickWord (s .args .step .waits)))
+word s = between (wordText (wordOf (s .args .step .waits)))
 
 abbrev to : tie.Start → List ℕ
 to s = nameText (s .args .step .to)
@@ -45,7 +45,7 @@ old s = s .args .out .now
 
 -- there is room for the line, and for its first parts
 room : (s : tie.Start) → length (((((stepWord ++ tab) ++ from s) ++ word s) ++ to s) ++ newline) ≤ length (old s)
-unfolding lineOf stepLine
+unfolding namedLine stepLine
 room s = s .pre
 
 room-five : (s : tie.Start) → length ((((stepWord ++ tab) ++ from s) ++ word s) ++ to s) ≤ length (old s)
@@ -110,7 +110,7 @@ same-length : tie.Need-same-length
 same-length c = search needs
 
 returns : tie.Need-returns
-unfolding lineOf stepLine
+unfolding namedLine stepLine
 returns c =
     let v = c .before .before in
     let u = sixth v in
