@@ -4,7 +4,7 @@ use mathlib.Core.Path.{_≡_, refl, sym, ap, ap₂, _∙_}
 use mathlib.Core.List.{List, map, [], _∷_, _++_}
 use Rattle.determined.specs.Determined.{Determines}
 use Rattle.rules.specs.declared.Message.{Message}
-use Rattle.verdicts.specs.Numbers.{asMessage}
+use Rattle.verdicts.specs.Numbers.{asMessage, asNetwork}
 use mathlib.Core.Logic.{inl, inr, _⊎_}
 use native.Mathlib.Omega.{arith}
 use lib.ListN.{length, getD, take, replicate, take-append-drop}
@@ -17,7 +17,6 @@ use Rattle.tables.specs.Cells.{relationsOfTables, number as messageNumber}
 use Rattle.plan_listing.specs.PlanText.{networkNumber, firstMessages, firstNetworks}
 use Rattle.verdicts.specs.declared.Planned.{Planned}
 use Rattle.verdicts.specs.Verdicts.{clearedMessage, MessagesPast, NetworksPast, PlanIs, ClassThree, ClassTwo, mappingOf, Fitting, Unfitting, JudgedIs}
-use Rattle.verdicts.specs.Leaves.{asNetwork}
 use Rattle.rows.specs.Determined.{Words}
 use Rattle.rows.proofs.Determined.{words-one}
 use Rattle.verdicts.specs.declared.Judged.{Judged}

@@ -10,9 +10,8 @@ use Rattle.rules.proofs.Cycle.{All<, closed-small}
 use Rattle.rows.specs.Rows.{Rows}
 use Rattle.walks.specs.Walks.{Cycle}
 use Rattle.plan_listing.specs.PlanText.{firstMessages, firstNetworks}
-use Rattle.verdicts.specs.Numbers.{asMessage}
+use Rattle.verdicts.specs.Numbers.{asMessage, asNetwork}
 use Rattle.verdicts.specs.Verdicts.{MessagesPast}
-use Rattle.verdicts.specs.Leaves.{asNetwork}
 
 -- ---- the first numbers
 

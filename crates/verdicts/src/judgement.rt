@@ -3,19 +3,19 @@ ghost use Prim.Native.Nat.{_<_, _≤_};
 ghost use Rattle.tables.specs.Cells.{relationsOfTables, TablesOk};
 ghost use Rattle.walks.specs.Walks.{Within};
 ghost use Rattle.verdicts.specs.Verdicts.{mappingOf, JudgedIs};
-ghost use Rattle.verdicts.specs.judgement.Judging.{RowsJudged};
+ghost use Rattle.verdicts.specs.judgement.Judging.{JudgementOfRows};
 use crate::Judged;
 use rules::Network;
 use tables::Tables;
 
 // The judgement that the rows give: the shown cycle begins with a waits step.
-fn judge_rows(waits: [u32; 32], steps: [u32; 32], n: usize) -> Judged
+fn judge_of_rows(waits: [u32; 32], steps: [u32; 32], n: usize) -> Judged
     requires { ⌜ (n ≤ 32) × Within n waits steps ⌝ }
-    ensures { λ r. ⌜ RowsJudged waits steps n r ⌝ }
+    ensures { λ r. ⌜ JudgementOfRows waits steps n r ⌝ }
 {
-    let mut bytes = [0u8; 32];
-    let length = walks::cycles::cycle(&waits, &steps, n, &mut bytes);
-    let cycle = crate::messages_of(bytes);
+    let mut numbers = [0u8; 32];
+    let length = walks::cycles::cycle(&waits, &steps, n, &mut numbers);
+    let cycle = crate::messages_of(numbers);
     Judged {
         length: length,
         cycle: cycle,
@@ -33,5 +33,5 @@ pub fn judge_of(t: Tables, networks: [Network; 32]) -> Judged
     let stalls = table_rows::stalls::stalls_rows(t);
     let waits = waits::waits_of(causes, stalls, n);
     let steps = waits::steps::steps_of(waits, stalls, networks, n);
-    judge_rows(waits, steps, n)
+    judge_of_rows(waits, steps, n)
 }

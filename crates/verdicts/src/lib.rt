@@ -2,15 +2,15 @@
 pub mod judgement;
 
 ghost use mathlib.Core.Path.{_≡_};
+ghost use mathlib.Core.List.{map};
 ghost use Prim.Native.Nat.{_<_, _≤_};
 ghost use Rattle.tables.specs.Cells.{relationsOfTables, TablesOk};
 ghost use Rattle.verdicts.specs.Verdicts.{PlanIs};
-ghost use Rattle.verdicts.specs.Leaves.{classThree, classTwo, RowsPlan};
+ghost use Rattle.verdicts.specs.Numbers.{asMessage, asNetwork};
+ghost use Rattle.verdicts.specs.Planning.{rankedPlan, cyclePlan, PlanOfRows};
 use rules::Message;
 use rules::Network;
 use tables::Tables;
-ghost use mathlib.Core.List.{map};
-ghost use Rattle.verdicts.specs.Numbers.{asMessage};
 
 // A plan: the least count and each message's network; or count 0 and the shown cycle.
 pub struct Planned {
@@ -27,17 +27,38 @@ pub struct Judged {
     pub waits: [u32; 32],
 }
 
-// A plan of class 3: the heights that were written are the networks.
-fn ranked(count: usize, bytes: [u8; 32]) -> Planned
-    ensures { λ r. ⌜ r ≡ classThree count bytes ⌝ }
+// The heights that were written, as networks.
+fn networks_of(heights: [u8; 32]) -> [Network; 32]
+    ensures { λ r. ⌜ r ≡ map asNetwork heights ⌝ }
 {
     let mut networks = [Network(0); 32];
     let mut i = 0;
     while i < 32 {
-        let height = bytes[i];
+        let height = heights[i];
         networks[i] = Network(height);
         i += 1;
     }
+    networks
+}
+
+// The numbers of a cycle that were written, as messages.
+pub(crate) fn messages_of(numbers: [u8; 32]) -> [Message; 32]
+    ensures { λ r. ⌜ r ≡ map asMessage numbers ⌝ }
+{
+    let mut messages = [Message(0); 32];
+    let mut i = 0;
+    while i < 32 {
+        let number = numbers[i];
+        messages[i] = Message(number);
+        i += 1;
+    }
+    messages
+}
+
+// A plan of class 3.
+fn ranked_plan(count: usize, networks: [Network; 32]) -> Planned
+    ensures { λ r. ⌜ r ≡ rankedPlan count networks ⌝ }
+{
     Planned {
         count: count,
         networks: networks,
@@ -46,31 +67,31 @@ fn ranked(count: usize, bytes: [u8; 32]) -> Planned
     }
 }
 
-// A plan of class 2: the numbers that were written are the cycle.
-fn cycled(length: usize, bytes: [u8; 32]) -> Planned
-    ensures { λ r. ⌜ r ≡ classTwo length bytes ⌝ }
+// A plan of class 2: the first messages of the array are the shown cycle.
+fn cycle_plan(messages: usize, cycle: [Message; 32]) -> Planned
+    ensures { λ r. ⌜ r ≡ cyclePlan messages cycle ⌝ }
 {
-    let cycle = crate::messages_of(bytes);
     Planned {
         count: 0,
         networks: [Network(0); 32],
-        length: length,
+        length: messages,
         cycle: cycle,
     }
 }
 
-// The plan of the rows of waits.
-fn plan_rows(waits: [u32; 32], n: usize) -> Planned
+// The plan of the rows of waits. Heights are networks, and the numbers of a cycle are messages: each is written to bytes of its own.
+fn plan_of_rows(waits: [u32; 32], n: usize) -> Planned
     requires { ⌜ (0 < n) × (n ≤ 32) ⌝ }
-    ensures { λ r. ⌜ RowsPlan waits n r ⌝ }
+    ensures { λ r. ⌜ PlanOfRows waits n r ⌝ }
 {
-    let mut bytes = [0u8; 32];
-    let count = walks::heights::heights(&waits, n, &mut bytes);
+    let mut heights = [0u8; 32];
+    let count = walks::heights::heights(&waits, n, &mut heights);
     if count != 0 {
-        return ranked(count, bytes);
+        return ranked_plan(count, networks_of(heights));
     }
-    let length = walks::cycles::cycle(&waits, &waits, n, &mut bytes);
-    cycled(length, bytes)
+    let mut numbers = [0u8; 32];
+    let length = walks::cycles::cycle(&waits, &waits, n, &mut numbers);
+    cycle_plan(length, messages_of(numbers))
 }
 
 // The plan of the tables.
@@ -82,21 +103,5 @@ pub fn plan_of(t: Tables) -> Planned
     let causes = table_rows::causes::causes_rows(t);
     let stalls = table_rows::stalls::stalls_rows(t);
     let waits = waits::waits_of(causes, stalls, n);
-    plan_rows(waits, n)
-}
-
-// ---- The numbers that a walk wrote, in a type of their own.
-
-// The numbers that a walk wrote, as messages.
-pub(crate) fn messages_of(bytes: [u8; 32]) -> [Message; 32]
-    ensures { λ r. ⌜ r ≡ map asMessage bytes ⌝ }
-{
-    let mut messages = [Message(0); 32];
-    let mut i = 0;
-    while i < 32 {
-        let byte = bytes[i];
-        messages[i] = Message(byte);
-        i += 1;
-    }
-    messages
+    plan_of_rows(waits, n)
 }

@@ -23,7 +23,7 @@ use Rattle.tables.proofs.InRange.{relations-accepted, rows-stalls}
 use Rattle.verdicts.specs.Numbers.{asMessage}
 use Rattle.verdicts.specs.Verdicts.{WaitsOf, MessagesPast, Fitting, Unfitting}
 use Rattle.waits.specs.steps.Steps.{StepsRows}
-use Rattle.verdicts.specs.judgement.Judging.{StepsOf, RowsJudged}
+use Rattle.verdicts.specs.judgement.Judging.{StepsTold, JudgementOfRows}
 use Rattle.verdicts.proofs.Waiting.{rows-waits}
 use Rattle.verdicts.proofs.Written.{cycle-first, cycle-few, cycle-long, cycle-messages, cycle-past}
 
@@ -48,7 +48,7 @@ module _ (t : Tables) (ok : TablesOk t) (some : 0 < t .«message_count») (φ : 
     stalled = (q .stalled .0, rows-stalls t ok some stalls g (q .stalled .0) k .1 (q .stalled .1));
   }
 
-  pub steps-told : (waits steps : List ℕ) → WaitsOf (relationsOfTables t) waits → StepsRows waits stalls φ (t .«message_count») steps → StepsOf t φ steps
+  pub steps-told : (waits steps : List ℕ) → WaitsOf (relationsOfTables t) waits → StepsRows waits stalls φ (t .«message_count») steps → StepsTold t φ steps
   steps-told waits steps w f m k h = (
     λ b. ⊎-elim (λ x. inl (w m k .0 x)) (λ q. inr (queues-there m k q)) (f .bits m k h .0 b),
     λ x. f .bits m k h .1 (⊎-elim (λ y. inl (w m k .1 y)) (λ q. inr (queues-back m k q)) x),
@@ -101,7 +101,7 @@ module _ (p : Relations) (acc : Accepted p) (few : p .count ≤ 32) (φ : Mappin
             )
 
 pub judged : (waits steps : List ℕ) (n : ℕ) → n ≤ 32 → (new : List ℕ) (len : ℕ) → Cycle waits steps n (replicate 32 0) new len → (cycle : List Message) → cycle ≡ map asMessage new
-    → RowsJudged waits steps n (record { length = len; cycle = cycle; waits = waits })
+    → JudgementOfRows waits steps n (record { length = len; cycle = cycle; waits = waits })
 judged waits steps n few new len c cycle is t φ ok some e w s = record {
   verdict = verdict (relationsOfTables t) (relations-accepted t ok (omega arith)) (omega arith) φ waits steps w s new len (subst (λ (k : ℕ). Cycle waits steps k (replicate 32 0) new len) (sym e) c) cycle is;
   waits = w;
