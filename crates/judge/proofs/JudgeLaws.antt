@@ -20,9 +20,9 @@ use Rattle.judge_listing.specs.fit.FitText.{fitText}
 use Rattle.judge_listing.specs.JudgeText.{unfitText, wordIn, stepsFrom, stepsAround}
 use Rattle.judge_listing.specs.Places.{GivenWalk, walkSteps}
 use Rattle.judge_listing.proofs.Places.{word-by-bit}
-use Rattle.verdicts.specs.declared.Judged.{Judged as Found}
-use Rattle.verdicts.specs.Verdicts.{mappingOf, WaitsOf, Fitting, Unfitting, JudgedIs}
-use Rattle.judge.specs.Call.{Shows, ShowsAll, Judged, mappedFor, AfterProtocol, Call}
+use Rattle.verdicts.specs.declared.JudgementFound.{JudgementFound}
+use Rattle.verdicts.specs.Verdicts.{mappingOf, WaitsOf, Fitting, Unfitting, JudgementIs}
+use Rattle.judge.specs.Call.{Shows, ShowsAll, JudgementWritten, mappedFor, AfterProtocol, Call}
 
 -- ---- the words that the rows of waits tell
 
@@ -44,22 +44,22 @@ module _ (p : Relations) (φ : Mapping) (rows : List ℕ) (w : WaitsOf p rows) w
 
 -- ---- the judgement
 
-module _ (t : Tables) (φ : Mapping) (v : Found) (is : JudgedIs (relationsOfTables t) φ v) where
-  fitting : v .length ≡ 0 → Fitting (relationsOfTables t) φ v
+module _ (t : Tables) (φ : Mapping) (v : JudgementFound) (is : JudgementIs (relationsOfTables t) φ v) where
+  fitting : v .«cycle_length» ≡ 0 → Fitting (relationsOfTables t) φ v
   fitting h =
       ⊎-elim (λ (w : Fitting (relationsOfTables t) φ v). w) (λ (w : Unfitting (relationsOfTables t) φ v). absurd (omega (arith, h, w .some))) (is .verdict)
 
-  pub unfitting : v .length ≢ 0 → Unfitting (relationsOfTables t) φ v
+  pub unfitting : v .«cycle_length» ≢ 0 → Unfitting (relationsOfTables t) φ v
   unfitting h =
       ⊎-elim (λ (w : Fitting (relationsOfTables t) φ v). absurd (h (w .none))) (λ (w : Unfitting (relationsOfTables t) φ v). w) (is .verdict)
 
-  pub judged-fit : (old new : List ℕ) (r : Answer) → v .length ≡ 0 → Listed fitText old new r → Judged t φ old new r
+  pub judged-fit : (old new : List ℕ) (r : Answer) → v .«cycle_length» ≡ 0 → Listed fitText old new r → JudgementWritten t φ old new r
   judged-fit old new r h l = record { listing = fitText; allowed = inl (record { fit = fitting h .fit; is = refl }); listed = l }
 
-  pub judged-unfit : (old new : List ℕ) (r : Answer) → v .length ≢ 0 → Listed (unfitText (t .messages) (walkSteps (v .waits) (v .length) (v .cycle))) old new r → Judged t φ old new r
+  pub judged-unfit : (old new : List ℕ) (r : Answer) → v .«cycle_length» ≢ 0 → Listed (unfitText (t .messages) (walkSteps (v .waits) (v .«cycle_length») (v .cycle))) old new r → JudgementWritten t φ old new r
   judged-unfit old new r h l =
       let w = unfitting h in
-      let ms = firstMessages (v .length) (v .cycle) in
+      let ms = firstMessages (v .«cycle_length») (v .cycle) in
       record {
         listing = unfitText (t .messages) (stepsAround (wordIn (v .waits)) ms);
         allowed =
@@ -75,7 +75,7 @@ module _ (t : Tables) (φ : Mapping) (v : Found) (is : JudgedIs (relationsOfTabl
       }
 
   -- what the listing of an unfit mapping asks for
-  pub walk-given : v .length ≢ 0 → GivenWalk (v .length) (v .cycle)
+  pub walk-given : v .«cycle_length» ≢ 0 → GivenWalk (v .«cycle_length») (v .cycle)
   walk-given h = let w = unfitting h in record { some = w .some; few = w .few; messages = w .messages }
 
 -- ---- the mapping
@@ -88,11 +88,11 @@ module _ (t : Tables) (y : List ℕ) (m : Mapped) (is : m ≡ mappedFor t y) whe
         judged = λ z. absurd (h (ap (λ (k : Mapped). k .number) is ∙ z));
       }
 
-  pub after-judged : m .number ≡ 0 → (old new : List ℕ) (r : Answer) → Judged t (mappingOf (m .networks)) old new r → AfterProtocol t y old new r
+  pub after-judged : m .number ≡ 0 → (old new : List ℕ) (r : Answer) → JudgementWritten t (mappingOf (m .networks)) old new r → AfterProtocol t y old new r
   after-judged z old new r j =
       record {
         mapping-refused = λ n. absurd (n (ap (λ (k : Mapped). k .number) (sym is) ∙ z));
-        judged = λ _. subst (λ (k : Mapped). Judged t (mappingOf (k .networks)) old new r) is j;
+        judged = λ _. subst (λ (k : Mapped). JudgementWritten t (mappingOf (k .networks)) old new r) is j;
       }
 
 -- ---- the call

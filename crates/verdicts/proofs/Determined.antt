@@ -15,11 +15,11 @@ use Rattle.rules.proofs.Promises.{determined, one-class, shown-is-real}
 use Rattle.tables.specs.declared.Tables.{Tables}
 use Rattle.tables.specs.Cells.{relationsOfTables, number as messageNumber}
 use Rattle.plan_listing.specs.PlanText.{networkNumber, firstMessages, firstNetworks}
-use Rattle.verdicts.specs.declared.Planned.{Planned}
-use Rattle.verdicts.specs.Verdicts.{clearedMessage, MessagesPast, NetworksPast, PlanIs, ClassThree, ClassTwo, mappingOf, Fitting, Unfitting, JudgedIs}
+use Rattle.verdicts.specs.declared.PlanFound.{PlanFound}
+use Rattle.verdicts.specs.Verdicts.{clearedMessage, MessagesPast, NetworksPast, PlanIs, ThreeFound, TwoFound, mappingOf, Fitting, Unfitting, JudgementIs}
 use Rattle.rows.specs.Determined.{Words}
 use Rattle.rows.proofs.Determined.{words-one}
-use Rattle.verdicts.specs.declared.Judged.{Judged}
+use Rattle.verdicts.specs.declared.JudgementFound.{JudgementFound}
 
 as-messages : (l : List Message) → map asMessage (map messageNumber l) ≡ l
 as-messages [] = refl
@@ -43,15 +43,15 @@ networks-one n l m f p q =
     ∙ ap₂ _++_ (sym (as-networks (take n l)) ∙ ap (map asNetwork) f ∙ as-networks (take n m)) (p ∙ sym q)
     ∙ take-append-drop n m
 
-same-plan : (r s : Planned) → r .count ≡ s .count → r .networks ≡ s .networks → r .length ≡ s .length → r .cycle ≡ s .cycle → r ≡ s
+same-plan : (r s : PlanFound) → r .count ≡ s .count → r .networks ≡ s .networks → r .«cycle_length» ≡ s .«cycle_length» → r .cycle ≡ s .cycle → r ≡ s
 same-plan r s a b c d =
-    let t : _≡_ {A = Planned}
-    (record { count = r .count; networks = r .networks; length = r .length; cycle = r .cycle })
-    (record { count = s .count; networks = s .networks; length = s .length; cycle = s .cycle }) = cc
+    let t : _≡_ {A = PlanFound}
+    (record { count = r .count; networks = r .networks; «cycle_length» = r .«cycle_length»; cycle = r .cycle })
+    (record { count = s .count; networks = s .networks; «cycle_length» = s .«cycle_length»; cycle = s .cycle }) = cc
     in t
 
-module _ (p : Relations) (r s : Planned) where
-  three-one : ClassThree p r → ClassThree p s → r ≡ s
+module _ (p : Relations) (r s : PlanFound) where
+  three-one : ThreeFound p r → ThreeFound p s → r ≡ s
   three-one f g =
       same-plan r s (determined .least-count p (r .count) (s .count) (f .least) (g .least))
       (networks-one (p .count) (r .networks) (s .networks) first (f .networks-past) (g .networks-past)) (f .no-length ∙ sym (g .no-length)) (f .no-cycle ∙ sym (g .no-cycle))
@@ -61,48 +61,48 @@ module _ (p : Relations) (r s : Planned) where
           ext-getD 0 (firstNetworks (p .count) (r .networks)) (firstNetworks (p .count) (s .networks)) (f .long ∙ sym (g .long))
           (λ i h. determined .mapping p (λ m. getD (firstNetworks (p .count) (r .networks)) m 0) (λ m. getD (firstNetworks (p .count) (s .networks)) m 0) (f .printed) (g .printed) i (omega (arith, f .long)))
 
-  two-one : ClassTwo p r → ClassTwo p s → r ≡ s
+  two-one : TwoFound p r → TwoFound p s → r ≡ s
   two-one f g =
       same-plan r s (f .none ∙ sym (g .none)) (f .no-networks ∙ sym (g .no-networks)) same
-      (messages-one (r .length) (s .length) (r .cycle) (s .cycle) same first (f .cycle-past) (g .cycle-past))
+      (messages-one (r .«cycle_length») (s .«cycle_length») (r .cycle) (s .cycle) same first (f .cycle-past) (g .cycle-past))
     where
-      first : firstMessages (r .length) (r .cycle) ≡ firstMessages (s .length) (s .cycle)
-      first = determined .plan-cycle p (firstMessages (r .length) (r .cycle)) (firstMessages (s .length) (s .cycle)) (f .cycle) (g .cycle)
+      first : firstMessages (r .«cycle_length») (r .cycle) ≡ firstMessages (s .«cycle_length») (s .cycle)
+      first = determined .plan-cycle p (firstMessages (r .«cycle_length») (r .cycle)) (firstMessages (s .«cycle_length») (s .cycle)) (f .cycle) (g .cycle)
 
-      same : r .length ≡ s .length
+      same : r .«cycle_length» ≡ s .«cycle_length»
       same = sym (f .long) ∙ ap length first ∙ g .long
 
 pub plan-one : (p : Relations) → Determines (PlanIs p)
 plan-one p r s (inl f) (inl g) = three-one p r s f g
-plan-one p r s (inl f) (inr g) = absurd (one-class p (firstMessages (s .length) (s .cycle)) (r .count) (g .cycle) (f .least))
-plan-one p r s (inr f) (inl g) = absurd (one-class p (firstMessages (r .length) (r .cycle)) (s .count) (f .cycle) (g .least))
+plan-one p r s (inl f) (inr g) = absurd (one-class p (firstMessages (s .«cycle_length») (s .cycle)) (r .count) (g .cycle) (f .least))
+plan-one p r s (inr f) (inl g) = absurd (one-class p (firstMessages (r .«cycle_length») (r .cycle)) (s .count) (f .cycle) (g .least))
 plan-one p r s (inr f) (inr g) = two-one p r s f g
 
 pub plan-of-determined : (t : Tables) → Determines (PlanIs (relationsOfTables t))
 plan-of-determined t = plan-one (relationsOfTables t)
 
-same-judgement : (r s : Judged) → r .length ≡ s .length → r .cycle ≡ s .cycle → r .waits ≡ s .waits → r ≡ s
+same-judgement : (r s : JudgementFound) → r .«cycle_length» ≡ s .«cycle_length» → r .cycle ≡ s .cycle → r .waits ≡ s .waits → r ≡ s
 same-judgement r s a b c =
-    let t : _≡_ {A = Judged} (record { length = r .length; cycle = r .cycle; waits = r .waits }) (record { length = s .length; cycle = s .cycle; waits = s .waits }) = cc in t
+    let t : _≡_ {A = JudgementFound} (record { «cycle_length» = r .«cycle_length»; cycle = r .cycle; waits = r .waits }) (record { «cycle_length» = s .«cycle_length»; cycle = s .cycle; waits = s .waits }) = cc in t
 
-module _ (p : Relations) (φ : Mapping) (r s : Judged) where
-  cycle-one : Fitting p φ r ⊎ Unfitting p φ r → Fitting p φ s ⊎ Unfitting p φ s → (r .length ≡ s .length) × (r .cycle ≡ s .cycle)
+module _ (p : Relations) (φ : Mapping) (r s : JudgementFound) where
+  cycle-one : Fitting p φ r ⊎ Unfitting p φ r → Fitting p φ s ⊎ Unfitting p φ s → (r .«cycle_length» ≡ s .«cycle_length») × (r .cycle ≡ s .cycle)
   cycle-one (inl f) (inl g) = (f .none ∙ sym (g .none), f .no-cycle ∙ sym (g .no-cycle))
-  cycle-one (inl f) (inr g) = absurd (f .fit (shown-is-real p .1 φ (firstMessages (s .length) (s .cycle)) (g .cycle)))
-  cycle-one (inr f) (inl g) = absurd (g .fit (shown-is-real p .1 φ (firstMessages (r .length) (r .cycle)) (f .cycle)))
-  cycle-one (inr f) (inr g) = (same, messages-one (r .length) (s .length) (r .cycle) (s .cycle) same first (f .cycle-past) (g .cycle-past))
+  cycle-one (inl f) (inr g) = absurd (f .fit (shown-is-real p .1 φ (firstMessages (s .«cycle_length») (s .cycle)) (g .cycle)))
+  cycle-one (inr f) (inl g) = absurd (g .fit (shown-is-real p .1 φ (firstMessages (r .«cycle_length») (r .cycle)) (f .cycle)))
+  cycle-one (inr f) (inr g) = (same, messages-one (r .«cycle_length») (s .«cycle_length») (r .cycle) (s .cycle) same first (f .cycle-past) (g .cycle-past))
     where
-      first : firstMessages (r .length) (r .cycle) ≡ firstMessages (s .length) (s .cycle)
-      first = determined .judge-cycle p φ (firstMessages (r .length) (r .cycle)) (firstMessages (s .length) (s .cycle)) (f .cycle) (g .cycle)
+      first : firstMessages (r .«cycle_length») (r .cycle) ≡ firstMessages (s .«cycle_length») (s .cycle)
+      first = determined .judge-cycle p φ (firstMessages (r .«cycle_length») (r .cycle)) (firstMessages (s .«cycle_length») (s .cycle)) (f .cycle) (g .cycle)
 
-      same : r .length ≡ s .length
+      same : r .«cycle_length» ≡ s .«cycle_length»
       same = sym (f .long) ∙ ap length first ∙ g .long
 
   -- their rows are arrays of words
-  pub judged-one : Words 32 (r .waits) → Words 32 (s .waits) → JudgedIs p φ r → JudgedIs p φ s → r ≡ s
+  pub judged-one : Words 32 (r .waits) → Words 32 (s .waits) → JudgementIs p φ r → JudgementIs p φ s → r ≡ s
   judged-one u v f g =
       let c = cycle-one (f .verdict) (g .verdict) in same-judgement r s (c .0) (c .1) (words-one 32 _ (r .waits) (s .waits) u v (f .waits) (g .waits))
 
 pub judge-of-determined : (t : Tables) (networks : List Network)
-    → Determines (λ (r : Judged). Words 32 (r .waits) × JudgedIs (relationsOfTables t) (mappingOf networks) r)
+    → Determines (λ (r : JudgementFound). Words 32 (r .waits) × JudgementIs (relationsOfTables t) (mappingOf networks) r)
 judge-of-determined t networks r s f g = judged-one (relationsOfTables t) (mappingOf networks) r s (f .0) (g .0) (f .1) (g .1)

@@ -22,8 +22,8 @@ use Rattle.tables.specs.Cells.{relationsOfTables}
 use Rattle.tables.proofs.InRange.{relations-accepted}
 use Rattle.plan_listing.specs.PlanText.{firstNetworks}
 use Rattle.verdicts.specs.Numbers.{asMessage, asNetwork}
-use Rattle.verdicts.specs.declared.Planned.{Planned}
-use Rattle.verdicts.specs.Verdicts.{WaitsOf, ClassThree, ClassTwo}
+use Rattle.verdicts.specs.declared.PlanFound.{PlanFound}
+use Rattle.verdicts.specs.Verdicts.{WaitsOf, ThreeFound, TwoFound}
 use Rattle.verdicts.specs.Planning.{rankedPlan, cyclePlan, PlanOfRows}
 use Rattle.verdicts.proofs.Waiting.{rows-waits}
 use Rattle.verdicts.proofs.Written.{networks-first, past, cycle-first, cycle-few, cycle-long, cycle-messages, cycle-past}
@@ -52,7 +52,7 @@ module _ (p : Relations) (acc : Accepted p) (few : p .count ≤ 32) (waits : Lis
     least : LeastCount p count
     least = least-count p (waits-within p acc) (λ m. getD heights m 0) printed count chain
 
-    class-three : (networks : List Network) → networks ≡ map asNetwork heights → ClassThree p (rankedPlan count networks)
+    class-three : (networks : List Network) → networks ≡ map asNetwork heights → ThreeFound p (rankedPlan count networks)
     class-three networks is =
         record {
           some = omega arith;
@@ -69,7 +69,7 @@ module _ (p : Relations) (acc : Accepted p) (few : p .count ≤ 32) (waits : Lis
         first = ap (firstNetworks (p .count)) is ∙ networks-first (p .count) heights
 
   class-two : (heights numbers : List ℕ) (count len : ℕ) → count ≡ 0 → Heights waits (p .count) (replicate 32 0) heights count
-      → Cycle waits waits (p .count) (replicate 32 0) numbers len → (cycle : List Message) → cycle ≡ map asMessage numbers → ClassTwo p (cyclePlan len cycle)
+      → Cycle waits waits (p .count) (replicate 32 0) numbers len → (cycle : List Message) → cycle ≡ map asMessage numbers → TwoFound p (cyclePlan len cycle)
   class-two heights numbers count len e h c cycle is =
       record {
         none = refl;
@@ -91,15 +91,15 @@ module _ (p : Relations) (acc : Accepted p) (few : p .count ≤ 32) (waits : Lis
 
 module _ (waits : List ℕ) (n : ℕ) (few : n ≤ 32) (heights : List ℕ) (count : ℕ) (h : Heights waits n (replicate 32 0) heights count) where
   -- what was made of heights and of a cycle is a plan
-  pub plan-three : ¬ (count ≡ 0) → (networks : List Network) → networks ≡ map asNetwork heights → (r : Planned) → r ≡ rankedPlan count networks → PlanOfRows waits n r
+  pub plan-three : ¬ (count ≡ 0) → (networks : List Network) → networks ≡ map asNetwork heights → (r : PlanFound) → r ≡ rankedPlan count networks → PlanOfRows waits n r
   plan-three g networks is r made t ok some e w =
-      inl (subst (ClassThree (relationsOfTables t)) (sym made)
+      inl (subst (ThreeFound (relationsOfTables t)) (sym made)
       (class-three (relationsOfTables t) (relations-accepted t ok (omega arith)) (omega arith) waits w heights count g
       (subst (λ (k : ℕ). Heights waits k (replicate 32 0) heights count) (sym e) h) networks is))
 
   pub plan-two : count ≡ 0 → (numbers : List ℕ) (len : ℕ) → Cycle waits waits n (replicate 32 0) numbers len → (cycle : List Message) → cycle ≡ map asMessage numbers
-      → (r : Planned) → r ≡ cyclePlan len cycle → PlanOfRows waits n r
+      → (r : PlanFound) → r ≡ cyclePlan len cycle → PlanOfRows waits n r
   plan-two z numbers len c cycle is r made t ok some e w =
-      inr (subst (ClassTwo (relationsOfTables t)) (sym made)
+      inr (subst (TwoFound (relationsOfTables t)) (sym made)
       (class-two (relationsOfTables t) (relations-accepted t ok (omega arith)) (omega arith) waits w heights numbers count len z
       (subst (λ (k : ℕ). Heights waits k (replicate 32 0) heights count) (sym e) h) (subst (λ (k : ℕ). Cycle waits waits k (replicate 32 0) numbers len) (sym e) c) cycle is))

@@ -13,16 +13,16 @@ use rules::Network;
 use tables::Tables;
 
 // A plan: the least count and each message's network; or count 0 and the shown cycle.
-pub struct Planned {
+pub struct PlanFound {
     pub count: usize,
     pub networks: [Network; 32],
-    pub length: usize,
+    pub cycle_length: usize,
     pub cycle: [Message; 32],
 }
 
 // A judgement: the shown cycle, of length 0 where the mapping is fit, and the rows of waits.
-pub struct Judged {
-    pub length: usize,
+pub struct JudgementFound {
+    pub cycle_length: usize,
     pub cycle: [Message; 32],
     pub waits: [u32; 32],
 }
@@ -55,32 +55,32 @@ pub(crate) fn messages_of(numbers: [u8; 32]) -> [Message; 32]
     messages
 }
 
-// A plan of class 3.
-fn ranked_plan(count: usize, networks: [Network; 32]) -> Planned
+// A plan of class 3: there is no cycle.
+fn ranked_plan(count: usize, networks: [Network; 32]) -> PlanFound
     ensures { λ r. ⌜ r ≡ rankedPlan count networks ⌝ }
 {
-    Planned {
+    PlanFound {
         count: count,
         networks: networks,
-        length: 0,
+        cycle_length: 0,
         cycle: [Message(0); 32],
     }
 }
 
-// A plan of class 2: the first messages of the array are the shown cycle.
-fn cycle_plan(messages: usize, cycle: [Message; 32]) -> Planned
-    ensures { λ r. ⌜ r ≡ cyclePlan messages cycle ⌝ }
+// A plan of class 2: the least count is 0, and there are no networks.
+fn cycle_plan(cycle_length: usize, cycle: [Message; 32]) -> PlanFound
+    ensures { λ r. ⌜ r ≡ cyclePlan «cycle_length» cycle ⌝ }
 {
-    Planned {
+    PlanFound {
         count: 0,
         networks: [Network(0); 32],
-        length: messages,
+        cycle_length: cycle_length,
         cycle: cycle,
     }
 }
 
 // The plan of the rows of waits. Heights are networks, and the numbers of a cycle are messages: each is written to bytes of its own.
-fn plan_of_rows(waits: [u32; 32], n: usize) -> Planned
+fn plan_of_rows(waits: [u32; 32], n: usize) -> PlanFound
     requires { ⌜ (0 < n) × (n ≤ 32) ⌝ }
     ensures { λ r. ⌜ PlanOfRows waits n r ⌝ }
 {
@@ -90,12 +90,12 @@ fn plan_of_rows(waits: [u32; 32], n: usize) -> Planned
         return ranked_plan(count, networks_of(heights));
     }
     let mut numbers = [0u8; 32];
-    let length = walks::cycles::cycle(&waits, &waits, n, &mut numbers);
-    cycle_plan(length, messages_of(numbers))
+    let cycle_length = walks::cycles::cycle(&waits, &waits, n, &mut numbers);
+    cycle_plan(cycle_length, messages_of(numbers))
 }
 
 // The plan of the tables.
-pub fn plan_of(t: Tables) -> Planned
+pub fn plan_of(t: Tables) -> PlanFound
     requires { ⌜ TablesOk t × (0 < t .«message_count») ⌝ }
     ensures { λ r. ⌜ PlanIs (relationsOfTables t) r ⌝ }
 {

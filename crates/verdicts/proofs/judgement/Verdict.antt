@@ -73,10 +73,10 @@ module _ (p : Relations) (acc : Accepted p) (few : p .count ≤ 32) (φ : Mappin
   same-steps a b = (λ r. s a b (r .i-below) .0 (r .bit), λ x. let h = step-within p acc φ a b x in record { i-below = h .0; j-below = h .1; bit = s a b (h .0) .1 x })
 
   module _ (new : List ℕ) (len : ℕ) (c : Cycle waits steps (p .count) (replicate 32 0) new len) (cycle : List Message) (is : cycle ≡ map asMessage new) where
-    verdict : Fitting p φ (record { length = len; cycle = cycle; waits = waits }) ⊎ Unfitting p φ (record { length = len; cycle = cycle; waits = waits })
+    verdict : Fitting p φ (record { «cycle_length» = len; cycle = cycle; waits = waits }) ⊎ Unfitting p φ (record { «cycle_length» = len; cycle = cycle; waits = waits })
     verdict = go (ℕ-discrete len 0)
       where
-        go : Dec (len ≡ 0) → Fitting p φ (record { length = len; cycle = cycle; waits = waits }) ⊎ Unfitting p φ (record { length = len; cycle = cycle; waits = waits })
+        go : Dec (len ≡ 0) → Fitting p φ (record { «cycle_length» = len; cycle = cycle; waits = waits }) ⊎ Unfitting p φ (record { «cycle_length» = len; cycle = cycle; waits = waits })
         go (yes z) = inl (
             record {
               none = z;
@@ -101,7 +101,7 @@ module _ (p : Relations) (acc : Accepted p) (few : p .count ≤ 32) (φ : Mappin
             )
 
 pub judged : (waits steps : List ℕ) (n : ℕ) → n ≤ 32 → (new : List ℕ) (len : ℕ) → Cycle waits steps n (replicate 32 0) new len → (cycle : List Message) → cycle ≡ map asMessage new
-    → JudgementOfRows waits steps n (record { length = len; cycle = cycle; waits = waits })
+    → JudgementOfRows waits steps n (record { «cycle_length» = len; cycle = cycle; waits = waits })
 judged waits steps n few new len c cycle is t φ ok some e w s = record {
   verdict = verdict (relationsOfTables t) (relations-accepted t ok (omega arith)) (omega arith) φ waits steps w s new len (subst (λ (k : ℕ). Cycle waits steps k (replicate 32 0) new len) (sym e) c) cycle is;
   waits = w;
