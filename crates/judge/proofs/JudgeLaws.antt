@@ -76,7 +76,7 @@ module _ (t : Tables) (φ : Mapping) (v : JudgementFound) (is : JudgementIs (rel
 
   -- what the listing of an unfit mapping asks for
   pub walk-given : v .«cycle_length» ≢ 0 → GivenWalk (v .«cycle_length») (v .cycle)
-  walk-given h = let w = unfitting h in record { some = w .some; few = w .few; messages = w .messages }
+  walk-given h = let w = unfitting h in record { some = w .some; few = w .stored .few; messages = w .stored .messages }
 
 -- ---- the mapping
 

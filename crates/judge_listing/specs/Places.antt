@@ -7,14 +7,14 @@ use lib.Dec.{ltb}
 use Rattle.rules.specs.declared.Message.{Message}
 use Rattle.rules.specs.Rules.{MessageNo}
 use Rattle.rules.specs.Plan.{Word}
-use Rattle.plan_listing.specs.PlanText.{firstMessages}
+use Rattle.plan_listing.specs.PlanText.{firstMessages, MessagesBelow}
 use Rattle.judge_listing.specs.JudgeText.{ShownStep, stepOf, stepsAround, wordIn}
 
 -- A closed walk as it is given: 1 to 32 messages, each with a row in the tables.
 pub record GivenWalk (count : ℕ) (cycle : List Message) : Type 0 where
   pub some : 0 < count
   pub few : count ≤ 32
-  pub messages : (i : ℕ) → i < count → getD (firstMessages count cycle) i 0 < 32
+  pub messages : MessagesBelow count (firstMessages count cycle)
 
 -- The steps of the walk, their words by the rows of waits.
 abbrev pub walkSteps : List ℕ → ℕ → List Message → List ShownStep

@@ -56,7 +56,7 @@ module _ (t : Tables) (v : PlanFound) (is : PlanIs (relationsOfTables t) v) wher
   three-asked h = three h .few
 
   pub two-asked : v .count ≡ 0 → (v .«cycle_length» ≤ 32) × MessagesBelow (v .«cycle_length») (firstMessages (v .«cycle_length») (v .cycle))
-  two-asked h = (two h .few, two h .messages)
+  two-asked h = (two h .stored .few, two h .stored .messages)
 
 -- ---- the call
 

@@ -26,7 +26,7 @@ use Rattle.verdicts.specs.declared.PlanFound.{PlanFound}
 use Rattle.verdicts.specs.Verdicts.{WaitsOf, ThreeFound, TwoFound}
 use Rattle.verdicts.specs.Planning.{rankedPlan, cyclePlan, PlanOfRows}
 use Rattle.verdicts.proofs.Waiting.{rows-waits}
-use Rattle.verdicts.proofs.Written.{networks-first, past, cycle-first, cycle-few, cycle-long, cycle-messages, cycle-past}
+use Rattle.verdicts.proofs.Written.{networks-first, past, cycle-first, cycle-stored}
 
 -- a least count is not larger than there are messages
 count-few : (p : Relations) → Accepted p → (k : ℕ) → LeastCount p k → k ≤ p .count
@@ -73,13 +73,10 @@ module _ (p : Relations) (acc : Accepted p) (few : p .count ≤ 32) (waits : Lis
   class-two heights numbers count len e h c cycle is =
       record {
         none = refl;
-        few = cycle-few (p .count) few waits waits numbers len c cycle is;
-        long = cycle-long (p .count) few waits waits numbers len c cycle is;
-        messages = cycle-messages (p .count) few waits waits numbers len c cycle is found;
+        stored = cycle-stored (p .count) few waits waits numbers len c cycle is found;
         cycle =
             subst (PlanCycle p) (sym (cycle-first (p .count) few waits waits numbers len c cycle is))
             (shown-same (Rows (p .count) waits) (Waits p) (Rows (p .count) waits) (Waits p) same same (take len numbers) (c .shown found));
-        cycle-past = cycle-past (p .count) few waits waits numbers len c cycle is;
         no-networks = refl;
       }
     where

@@ -10,7 +10,8 @@ use Rattle.rules.specs.Rules.{MessageNo, Relations, Mapping, Waits, Fit}
 use Rattle.rules.specs.Plan.{LeastCount, Printed, PlanCycle, JudgeCycle}
 use Rattle.rows.specs.Rows.{Bit}
 pub use Rattle.waits.specs.steps.Steps.{mappingOf}
-use Rattle.plan_listing.specs.PlanText.{firstMessages, firstNetworks}
+use Rattle.plan_listing.specs.PlanText.{firstMessages, firstNetworks, MessagesBelow}
+use Rattle.verdicts.specs.Numbers.{asMessage, asNetwork}
 use Rattle.verdicts.specs.declared.PlanFound.{PlanFound}
 use Rattle.verdicts.specs.declared.JudgementFound.{JudgementFound}
 
@@ -20,13 +21,13 @@ use Rattle.verdicts.specs.declared.JudgementFound.{JudgementFound}
 abbrev pub WaitsOf : Relations → List ℕ → Type 0
 WaitsOf p rows = (b c : MessageNo) → Bit (getD rows b 0) c ↔ Waits p b c
 
--- ---- what is past a count
+-- ---- what an array holds past a count
 
 abbrev pub clearedMessage : Message
-clearedMessage = record { 0 = 0 }
+clearedMessage = asMessage 0
 
 abbrev pub clearedNetwork : Network
-clearedNetwork = record { 0 = 0 }
+clearedNetwork = asNetwork 0
 
 -- The messages from place n on are cleared.
 abbrev pub MessagesPast : ℕ → List Message → Type 0
@@ -35,6 +36,13 @@ MessagesPast n l = drop n l ≡ replicate (32 - n) clearedMessage
 -- The networks from place n on are cleared.
 abbrev pub NetworksPast : ℕ → List Network → Type 0
 NetworksPast n l = drop n l ≡ replicate (32 - n) clearedNetwork
+
+-- A cycle in an array: its messages are the first `count` of the array, each with a row in the tables; the places past them are cleared.
+pub record StoredCycle (count : ℕ) (cycle : List Message) : Type 0 where
+  pub few : count ≤ 32
+  pub long : length (firstMessages count cycle) ≡ count
+  pub messages : MessagesBelow count (firstMessages count cycle)
+  pub past : MessagesPast count cycle
 
 -- ---- a plan
 
@@ -52,13 +60,11 @@ pub record ThreeFound (p : Relations) (r : PlanFound) : Type 0 where
 -- Class 2: the shown cycle of waits steps. There are no networks.
 pub record TwoFound (p : Relations) (r : PlanFound) : Type 0 where
   pub none : r .count ≡ 0
-  pub few : r .«cycle_length» ≤ 32
-  pub long : length (firstMessages (r .«cycle_length») (r .cycle)) ≡ r .«cycle_length»
-  pub messages : (i : ℕ) → i < r .«cycle_length» → getD (firstMessages (r .«cycle_length») (r .cycle)) i 0 < 32
+  pub stored : StoredCycle (r .«cycle_length») (r .cycle)
   pub cycle : PlanCycle p (firstMessages (r .«cycle_length») (r .cycle))
-  pub cycle-past : MessagesPast (r .«cycle_length») (r .cycle)
   pub no-networks : NetworksPast 0 (r .networks)
 
+-- r is the plan of the relations p.
 abbrev pub PlanIs : Relations → PlanFound → Type 0
 PlanIs p r = ThreeFound p r ⊎ TwoFound p r
 
@@ -67,11 +73,8 @@ PlanIs p r = ThreeFound p r ⊎ TwoFound p r
 -- Unfit, with the shown cycle.
 pub record Unfitting (p : Relations) (φ : Mapping) (r : JudgementFound) : Type 0 where
   pub some : 0 < r .«cycle_length»
-  pub few : r .«cycle_length» ≤ 32
-  pub long : length (firstMessages (r .«cycle_length») (r .cycle)) ≡ r .«cycle_length»
-  pub messages : (i : ℕ) → i < r .«cycle_length» → getD (firstMessages (r .«cycle_length») (r .cycle)) i 0 < 32
+  pub stored : StoredCycle (r .«cycle_length») (r .cycle)
   pub cycle : JudgeCycle p φ (firstMessages (r .«cycle_length») (r .cycle))
-  pub cycle-past : MessagesPast (r .«cycle_length») (r .cycle)
 
 -- Fit. There is no cycle.
 pub record Fitting (p : Relations) (φ : Mapping) (r : JudgementFound) : Type 0 where
@@ -79,6 +82,7 @@ pub record Fitting (p : Relations) (φ : Mapping) (r : JudgementFound) : Type 0 
   pub fit : Fit p φ
   pub no-cycle : MessagesPast 0 (r .cycle)
 
+-- r is the judgement of the mapping φ for the relations p.
 pub record JudgementIs (p : Relations) (φ : Mapping) (r : JudgementFound) : Type 0 where
   pub verdict : Fitting p φ r ⊎ Unfitting p φ r
   pub waits : WaitsOf p (r .waits)

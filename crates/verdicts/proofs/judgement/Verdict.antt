@@ -25,7 +25,7 @@ use Rattle.verdicts.specs.Verdicts.{WaitsOf, MessagesPast, Fitting, Unfi
 use Rattle.waits.specs.steps.Steps.{StepsRows}
 use Rattle.verdicts.specs.judgement.Judging.{StepsTold, JudgementOfRows}
 use Rattle.verdicts.proofs.Waiting.{rows-waits}
-use Rattle.verdicts.proofs.Written.{cycle-first, cycle-few, cycle-long, cycle-messages, cycle-past}
+use Rattle.verdicts.proofs.Written.{cycle-first, cycle-past, cycle-stored}
 
 -- ---- the rows of steps are those of the rules
 
@@ -90,13 +90,10 @@ module _ (p : Relations) (acc : Accepted p) (few : p .count ≤ 32) (φ : Mappin
         go (no g) = inr (
             record {
               some = omega arith;
-              few = cycle-few (p .count) few waits steps new len c cycle is;
-              long = cycle-long (p .count) few waits steps new len c cycle is;
-              messages = cycle-messages (p .count) few waits steps new len c cycle is g;
+              stored = cycle-stored (p .count) few waits steps new len c cycle is g;
               cycle =
                   subst (JudgeCycle p φ) (sym (cycle-first (p .count) few waits steps new len c cycle is))
                   (shown-same (Rows (p .count) waits) (Waits p) (Rows (p .count) steps) (Step p φ) (rows-waits p acc waits w) same-steps (take len new) (c .shown g));
-              cycle-past = cycle-past (p .count) few waits steps new len c cycle is;
             }
             )
 
