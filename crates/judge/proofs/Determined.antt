@@ -18,7 +18,7 @@ use Rattle.answers.specs.Answers.{Listed}
 use Rattle.judge_listing.specs.JudgeText.{ShownStep, unfitText}
 use Rattle.verdicts.specs.Verdicts.{mappingOf}
 use Rattle.answers.proofs.Determined.{refusal-determined, listed-determined}
-use Rattle.judge.specs.Call.{Shows, ShowsAll, UnfitListing, JudgeListing, Judged, mappedFor, AfterProtocol}
+use Rattle.judge.specs.Call.{Shows, ShowsAll, UnfitListing, JudgeListing, JudgementWritten, mappedFor, AfterProtocol}
 use Rattle.judge.specs.Determined.{JudgeDetermined}
 use Rattle.text.specs.Written.{Wrote}
 use Rattle.text.proofs.Determined.{wrote-determined}
@@ -62,7 +62,7 @@ listing-one t φ l m (inr v) (inr w) = unfit-one (t .messages) (relationsOfTable
 
 -- ---- the call
 
-judged-one : (t : Tables) (φ : Mapping) (old new₁ new₂ : List ℕ) (r s : Answer) → Judged t φ old new₁ r → Judged t φ old new₂ s → (r ≡ s) × (new₁ ≡ new₂)
+judged-one : (t : Tables) (φ : Mapping) (old new₁ new₂ : List ℕ) (r s : Answer) → JudgementWritten t φ old new₁ r → JudgementWritten t φ old new₂ s → (r ≡ s) × (new₁ ≡ new₂)
 judged-one t φ old new₁ new₂ r s v w =
     let same = listing-one t φ (w .listing) (v .listing) (w .allowed) (v .allowed) in
     listed-determined (v .listing) old new₁ new₂ r s (v .listed) (subst (λ (l : List ℕ). Listed l old new₂ s) same (w .listed))

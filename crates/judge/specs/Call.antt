@@ -53,7 +53,7 @@ abbrev pub JudgeListing : Tables → Mapping → List ℕ → Type 0
 JudgeListing t φ listing = FitListing (relationsOfTables t) φ listing ⊎ UnfitListing (t .messages) (relationsOfTables t) φ listing
 
 -- Such a listing was to be written to the lent bytes, which are `old` at entry and `new` at exit.
-pub record Judged (t : Tables) (φ : Mapping) (old new : List ℕ) (r : Answer) : Type 0 where
+pub record JudgementWritten (t : Tables) (φ : Mapping) (old new : List ℕ) (r : Answer) : Type 0 where
   pub listing : List ℕ
   pub allowed : JudgeListing t φ listing
   pub listed : Listed listing old new r
@@ -67,7 +67,7 @@ mappedFor t mapping = readMapping (messagesOf t) mapping
 -- What follows once the protocol is accepted: the mapping (paper 1), then 16.
 pub record AfterProtocol (t : Tables) (mapping old new : List ℕ) (r : Answer) : Type 0 where
   pub mapping-refused : mappedFor t mapping .refusal .number ≢ 0 → Refused (mappedFor t mapping .refusal .number) 1 (mappedFor t mapping .refusal .line) old new r
-  pub judged : mappedFor t mapping .refusal .number ≡ 0 → Judged t (mappingOf (mappedFor t mapping .networks)) old new r
+  pub judged : mappedFor t mapping .refusal .number ≡ 0 → JudgementWritten t (mappingOf (mappedFor t mapping .networks)) old new r
 
 -- "A judgement checks the protocol (paper 0), then the mapping (paper 1: 1 to 4, 14, 15), then 16."
 pub record Call (protocol mapping old new : List ℕ) (r : Answer) : Type 0 where

@@ -6,7 +6,7 @@ ghost use Prim.Native.Nat.{_<_};
 ghost use Rattle.tables.specs.Cells.{TablesOk};
 ghost use Rattle.protocol.specs.Reading.{readProtocol};
 ghost use Rattle.verdicts.specs.Verdicts.{mappingOf};
-ghost use Rattle.judge.specs.Call.{Judged, AfterProtocol, Call};
+ghost use Rattle.judge.specs.Call.{JudgementWritten, AfterProtocol, Call};
 use answers::Answer;
 use rules::Network;
 use tables::Tables;
@@ -14,16 +14,16 @@ use tables::Tables;
 // The judgement of a mapping for a protocol's tables, written to the output if there is room for it.
 fn judge_tables(t: Tables, networks: [Network; 32], out: &mut [u8]) -> Answer
     requires { ⌜ TablesOk t × (0 < t .«message_count») ⌝ }
-    ensures { λ r. ⌜ Judged t (mappingOf networks) (now (out .entry)) (now (out .exit)) r ⌝ }
+    ensures { λ r. ⌜ JudgementWritten t (mappingOf networks) (now (out .entry)) (now (out .exit)) r ⌝ }
 {
     let found = verdicts::judgement::judge_of(t, networks);
-    if found.length == 0 {
+    if found.cycle_length == 0 {
         return judge_listing::fit::fit_listing(out);
     }
     let messages = t.messages;
     let cycle = found.cycle;
     let waits = found.waits;
-    judge_listing::unfit_listing(messages, cycle, found.length, waits, out)
+    judge_listing::unfit_listing(messages, cycle, found.cycle_length, waits, out)
 }
 
 // The judgement of a mapping text for a protocol's tables.

@@ -1,23 +1,25 @@
 -- The steps of a closed walk by their places.
 use mathlib.Core.Path.{_≡_, refl, sym, ap, ap₂, _∙_}
-use mathlib.Core.Bool.{Bool, true, false, cond}
+use mathlib.Core.Bool.{Bool, true, false, cond, decide}
 use mathlib.Core.Logic.{_↔_}
 use mathlib.Core.List.{List, [], _∷_, _++_}
-use Prim.Native.Nat.{ℕ, zero, suc, _+_, _/_, _%_, _^_, _≤_, _<_}
+use Prim.Native.Nat.{ℕ, zero, suc, _+_, _≤_, _<_}
 use native.Mathlib.Omega.{arith}
 use native.Mathlib.Numerals.{add-one}
 use lib.ListN.{length, take, getD, length-append, length-map, List·getD-append, List·getD-map}
 use lib.Seq.{getD-take, getD-at, length-take-le}
-use lib.Dec.{ltb, eqb}
-use borrow.Author.Tests.{ltb-true, ltb-false, lt-ltb, le-ltb, eq-eqb, ne-eqb}
+use lib.Dec.{ltb}
+use borrow.Author.Tests.{ltb-true, ltb-false, lt-ltb, le-ltb}
 use Rattle.rules.specs.declared.Message.{Message}
 use Rattle.rules.specs.Rules.{MessageNo}
-use Rattle.rules.specs.Plan.{Word}
+use Rattle.rules.specs.Plan.{Word, waits, queues}
 use Rattle.rows.specs.Rows.{Bit}
+use Rattle.rows.proofs.Bits.{bit?}
 use Rattle.tables.specs.Cells.{number as messageNumber}
 use Rattle.plan_listing.specs.PlanText.{firstMessages}
-use Rattle.judge_listing.specs.JudgeText.{ShownStep, stepsFrom, stepsOf}
-use Rattle.judge_listing.specs.Steps.{nextPlace, stepOf, stepAt}
+use Rattle.judge_listing.specs.step_lines.StepLine.{wordOf}
+use Rattle.judge_listing.specs.JudgeText.{ShownStep, stepOf, stepsFrom, stepsAround, wordIn}
+use Rattle.judge_listing.specs.Places.{nextPlace, stepAt}
 
 -- ---- the messages of the walk
 
@@ -69,8 +71,8 @@ module _ (w : MessageNo → MessageNo → Word) where
   from-at d a (b ∷ l) (suc i) h = from-at d b l i (omega arith)
 
   -- as many steps as messages
-  pub steps-length : (l : List MessageNo) → length (stepsOf w l) ≡ length l
-  unfolding stepsOf
+  pub steps-length : (l : List MessageNo) → length (stepsAround w l) ≡ length l
+  unfolding stepsAround
   steps-length [] = refl
   steps-length (a ∷ l) = length-from a (l ++ (a ∷ [])) ∙ length-append l (a ∷ []) ∙ add-one (length l)
 
@@ -88,8 +90,8 @@ module _ (w : MessageNo → MessageNo → Word) where
           let q = ltb-false (i + 1) (length (a ∷ l)) e in
           getD-at l a [] 0 i (omega arith) ∙ ap (λ (k : ℕ). getD (a ∷ l) k 0) (next-back (length (a ∷ l)) i q)
 
-  pub steps-at : (d : ShownStep) (l : List MessageNo) (i : ℕ) → i < length l → getD (stepsOf w l) i d ≡ stepAt w l i
-  unfolding stepsOf stepAt
+  pub steps-at : (d : ShownStep) (l : List MessageNo) (i : ℕ) → i < length l → getD (stepsAround w l) i d ≡ stepAt w l i
+  unfolding stepsAround stepAt
   steps-at d [] i h = absurd (omega arith)
   steps-at d (a ∷ l) i h =
       from-at d a (l ++ (a ∷ [])) i (omega (arith, length-append l (a ∷ [])))
@@ -97,7 +99,22 @@ module _ (w : MessageNo → MessageNo → Word) where
 
 -- ---- the word of a step
 
--- what tells that a bit is set is the test for it
-pub bit-test : (b : Bool) (row k : ℕ) → ((b ≡ true) ↔ Bit row k) → b ≡ eqb (row / 2 ^ k % 2) 1
-bit-test true row k f = sym (eq-eqb _ _ (f .0 refl))
-bit-test false row k f = sym (ne-eqb _ _ (λ e. let z : _≡_ {A = Bool} false true = f .1 e in let y : _≡_ {A = ℕ} 0 1 = cc in omega arith))
+-- what tells that a bit is set is the decision of it
+pub bit-told : (b : Bool) (row k : ℕ) → ((b ≡ true) ↔ Bit row k) → b ≡ decide (bit? row k)
+unfolding decide
+bit-told b row k f = go b (bit? row k) f
+  where
+    go : (b : Bool) (d : Dec (Bit row k)) → ((b ≡ true) ↔ Bit row k) → b ≡ decide d
+    go true (yes h) f = refl
+    go true (no g) f = absurd (g (f .0 refl))
+    go false (yes h) f = f .1 h
+    go false (no g) f = refl
+
+-- what holds of both words, each by its bit, holds of the step's word
+pub word-by-bit : (P : Word → Type 0) (rows : List ℕ) (m k : MessageNo) → (Bit (getD rows m 0) k → P waits) → (¬ Bit (getD rows m 0) k → P queues) → P (wordIn rows m k)
+unfolding wordIn decide
+word-by-bit P rows m k set clear = go (bit? (getD rows m 0) k)
+  where
+    go : (d : Dec (Bit (getD rows m 0) k)) → P (wordOf (decide d))
+    go (yes h) = set h
+    go (no g) = clear g

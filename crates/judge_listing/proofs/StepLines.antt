@@ -21,11 +21,11 @@ use Rattle.tables.specs.Tables.{noMessage}
 use Rattle.text.proofs.Parts.{getD-within}
 use Rattle.plan_listing.specs.PlanText.{nameAt}
 use Rattle.judge_listing.specs.fit.FitText.{verdictHead}
-use Rattle.judge_listing.specs.declared.step_lines.Step.{Step}
-use Rattle.judge_listing.specs.step_lines.StepLine.{stepLine, wordText, pickWord, lineOf}
-use Rattle.judge_listing.specs.JudgeText.{ShownStep, stepsOf, unfitText, stepText, stepTexts, wordIn}
-use Rattle.judge_listing.specs.Steps.{nextPlace, stepAt}
-use Rattle.judge_listing.proofs.Places.{steps-length, steps-at, bit-test}
+use Rattle.judge_listing.specs.declared.step_lines.NamedStep.{NamedStep}
+use Rattle.judge_listing.specs.step_lines.StepLine.{stepLine, wordText, wordOf, namedLine}
+use Rattle.judge_listing.specs.JudgeText.{ShownStep, stepsAround, unfitText, stepText, stepTexts, wordIn}
+use Rattle.judge_listing.specs.Places.{nextPlace, stepAt}
+use Rattle.judge_listing.proofs.Places.{steps-length, steps-at, bit-told}
 
 -- the name in the row of a message
 pub name-at : (rows : List MessageRow) (k m : ℕ) → k ≡ m → m < length rows
@@ -36,14 +36,14 @@ name-at rows k m e h =
     ∙ ap (λ (r : MessageRow). nameText (r .name)) (getD-within rows m (record { name = record { bytes = []; length = 0 }; kind = Req }) noMessage h)
 
 -- a step that holds the names of its messages, and their bit, has the line of the step at its place
-pub step-line : (rows : List MessageRow) (waits l : List ℕ) (i from to f t : ℕ) (s : Step) → f ≡ from → t ≡ to
+pub step-line : (rows : List MessageRow) (waits l : List ℕ) (i from to f t : ℕ) (s : NamedStep) → f ≡ from → t ≡ to
     → from ≡ getD l i 0 → to ≡ getD l (nextPlace (length l) i) 0
     → nameText (s .from) ≡ nameAt rows from → nameText (s .to) ≡ nameAt rows to → ((s .waits ≡ true) ↔ Bit (getD waits f 0) t)
-    → lineOf s ≡ stepText rows (stepAt (wordIn waits) l i)
-unfolding lineOf stepText stepAt wordIn
+    → namedLine s ≡ stepText rows (stepAt (wordIn waits) l i)
+unfolding namedLine stepText stepAt wordIn
 step-line rows waits l i from to f t s pf pt ef et nf nt b =
-    ap₂ (λ (p q : List ℕ). stepLine p (wordText (pickWord (s .waits))) q) nf nt
-    ∙ ap (λ (t : Bool). stepLine (nameAt rows from) (wordText (pickWord t)) (nameAt rows to)) (bit-test (s .waits) (getD waits f 0) t b)
+    ap₂ (λ (p q : List ℕ). stepLine p (wordText (wordOf (s .waits))) q) nf nt
+    ∙ ap (λ (t : Bool). stepLine (nameAt rows from) (wordText (wordOf t)) (nameAt rows to)) (bit-told (s .waits) (getD waits f 0) t b)
     ∙ ap₂ (λ (g u : ℕ). stepLine (nameAt rows from) (wordText (wordIn waits g u)) (nameAt rows to)) pf pt
     ∙ ap₂ (λ (f t : ℕ). stepLine (nameAt rows f) (wordText (wordIn waits f t)) (nameAt rows t)) ef et
 
@@ -64,7 +64,7 @@ texts-append rows (x ∷ s) t =
 module _ (rows : List MessageRow) (w : MessageNo → MessageNo → Word) (l : List MessageNo) where
   -- the lines of the first steps
   abbrev pub firstLines : ℕ → List ℕ
-  firstLines i = stepTexts rows (take i (stepsOf w l))
+  firstLines i = stepTexts rows (take i (stepsAround w l))
 
   pub no-lines : firstLines 0 ≡ []
   unfolding stepTexts
@@ -77,17 +77,17 @@ module _ (rows : List MessageRow) (w : MessageNo → MessageNo → Word) (l : Li
       let e : at + 0 ≡ at = omega arith in
       record { count = sym e; bytes = rw e (sym (take-append-drop at old)) }
 
-  pub all-lines : (i : ℕ) → length l ≤ i → firstLines i ≡ stepTexts rows (stepsOf w l)
-  all-lines i h = ap (stepTexts rows) (take-all i (stepsOf w l) (omega (arith, steps-length w l)))
+  pub all-lines : (i : ℕ) → length l ≤ i → firstLines i ≡ stepTexts rows (stepsAround w l)
+  all-lines i h = ap (stepTexts rows) (take-all i (stepsAround w l) (omega (arith, steps-length w l)))
 
   -- the first lines are no longer than all
-  pub fewer-lines : (i : ℕ) → length (firstLines i) ≤ length (stepTexts rows (stepsOf w l))
+  pub fewer-lines : (i : ℕ) → length (firstLines i) ≤ length (stepTexts rows (stepsAround w l))
   fewer-lines i =
-      let e = ap length (ap (stepTexts rows) (sym (take-append-drop i (stepsOf w l))) ∙ texts-append rows (take i (stepsOf w l)) (drop i (stepsOf w l))) in
-      omega (arith, e, length-append (firstLines i) (stepTexts rows (drop i (stepsOf w l))))
+      let e = ap length (ap (stepTexts rows) (sym (take-append-drop i (stepsAround w l))) ∙ texts-append rows (take i (stepsAround w l)) (drop i (stepsAround w l))) in
+      omega (arith, e, length-append (firstLines i) (stepTexts rows (drop i (stepsAround w l))))
 
   -- the lines are written into a buffer, which keeps its length
-  pub lines-kept : (old out : List ℕ) (start at i : ℕ) → start + length (stepTexts rows (stepsOf w l)) ≤ length old
+  pub lines-kept : (old out : List ℕ) (start at i : ℕ) → start + length (stepTexts rows (stepsAround w l)) ≤ length old
       → Pasted (firstLines i) start old out at → length out ≡ length old
   lines-kept old out start at i room v = pasted-length (firstLines i) old out start at (omega (arith, fewer-lines i)) v
 
@@ -97,16 +97,16 @@ module _ (rows : List MessageRow) (w : MessageNo → MessageNo → Word) (l : Li
     unfolding stepTexts
     next-line =
         let d : ShownStep = record { from = 0; word = queues; to = 0 } in
-        ap (λ (k : ℕ). stepTexts rows (take k (stepsOf w l))) (add-one i)
-        ∙ ap (stepTexts rows) (take-suc (stepsOf w l) i d (omega (arith, steps-length w l)))
-        ∙ texts-append rows (take i (stepsOf w l)) (getD (stepsOf w l) i d ∷ [])
-        ∙ ap (λ (m : List ℕ). firstLines i ++ m) (append-nil (stepText rows (getD (stepsOf w l) i d)) ∙ ap (stepText rows) (steps-at w d l i h) ∙ sym e)
+        ap (λ (k : ℕ). stepTexts rows (take k (stepsAround w l))) (add-one i)
+        ∙ ap (stepTexts rows) (take-suc (stepsAround w l) i d (omega (arith, steps-length w l)))
+        ∙ texts-append rows (take i (stepsAround w l)) (getD (stepsAround w l) i d ∷ [])
+        ∙ ap (λ (m : List ℕ). firstLines i ++ m) (append-nil (stepText rows (getD (stepsAround w l) i d)) ∙ ap (stepText rows) (steps-at w d l i h) ∙ sym e)
 
     pub next-length : length (firstLines (i + 1)) ≡ length (firstLines i) + length line
     next-length = ap length next-line ∙ length-append (firstLines i) line
 
     -- the line is written behind the first i
-    module _ (old out : List ℕ) (start at : ℕ) (room : start + length (stepTexts rows (stepsOf w l)) ≤ length old) (v : Pasted (firstLines i) start old out at) where
+    module _ (old out : List ℕ) (start at : ℕ) (room : start + length (stepTexts rows (stepsAround w l)) ≤ length old) (v : Pasted (firstLines i) start old out at) where
       room-both : start + length (firstLines i ++ line) ≤ length old
       room-both = omega (arith, fewer-lines (i + 1), ap length next-line)
 

@@ -1,5 +1,5 @@
 pub mod JudgeText
-pub mod Steps
+pub mod Places
 pub mod Longest
 pub mod fit
 pub mod step_lines

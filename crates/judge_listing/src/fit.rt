@@ -3,13 +3,16 @@ ghost use Rattle.answers.specs.Answers.{Listed};
 ghost use Rattle.judge_listing.specs.fit.FitText.{fitText};
 use answers::Answer;
 
+// How many bytes the listing has: the head, and `fit` in it.
+const NEEDED: usize = crate::HEAD + text::words::FIT.len();
+
 // The listing of a fit mapping, if there is room for it.
 pub fn fit_listing(out: &mut [u8]) -> Answer
     ensures { λ r. ⌜ Listed fitText (now (out .entry)) (now (out .exit)) r ⌝ }
 {
-    if out.len() < 15 {
-        return answers::no_room(15);
+    if out.len() < NEEDED {
+        return answers::no_room(NEEDED);
     }
-    let end = text::put(out, b"vn-judge\t1\nfit\n");
+    let end = crate::put_verdict(out, &text::words::FIT);
     answers::listed(end)
 }

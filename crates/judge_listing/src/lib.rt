@@ -1,4 +1,4 @@
-// The listing of an unfit mapping.
+// The listing of a judgement: the lines that both verdicts begin with, and the steps that an unfit mapping is shown by.
 pub mod fit;
 pub mod step_lines;
 
@@ -6,20 +6,40 @@ ghost use mathlib.Core.Path.{_≡_};
 ghost use Prim.Native.Nat.{_+_, _<_, _≤_};
 ghost use lib.ListN.{length};
 ghost use Rattle.text.specs.Name.{nameText};
-ghost use Rattle.text.specs.Written.{Pasted};
+ghost use Rattle.text.specs.Written.{Wrote, Pasted};
 ghost use Rattle.plan_listing.specs.PlanText.{nameAt, firstMessages};
 ghost use Rattle.answers.specs.Answers.{Listed};
-ghost use Rattle.judge_listing.specs.step_lines.StepLine.{lineOf};
+ghost use Rattle.judge_listing.specs.fit.FitText.{verdictHead};
+ghost use Rattle.judge_listing.specs.step_lines.StepLine.{namedLine};
 ghost use Rattle.judge_listing.specs.JudgeText.{unfitText, stepText, stepTexts, wordIn};
-ghost use Rattle.judge_listing.specs.Steps.{GivenWalk, walkSteps, nextPlace, stepAt};
-use crate::step_lines::Step;
+ghost use Rattle.judge_listing.specs.Places.{GivenWalk, walkSteps, nextPlace, stepAt};
+use crate::step_lines::NamedStep;
 use answers::Answer;
 use rules::Message;
 use tables::MessageRow;
 use text::Name;
 
+// How many bytes the header and the verdict's line have, but for the verdict: the header and two ends of lines.
+pub(crate) const HEAD: usize = text::words::JUDGE_HEADER.len()
+    + text::words::NEWLINE.len()
+    + text::words::NEWLINE.len();
+
+// How many bytes of the listing of an unfit mapping stand before its steps: the head, and `unfit` in it.
+const BEFORE_STEPS: usize = HEAD + text::words::UNFIT.len();
+
+// The header and the verdict's line, at the front of out.
+pub(crate) fn put_verdict(out: &mut [u8], verdict: &[u8]) -> usize
+    requires { ⌜ length (verdictHead (now verdict)) ≤ length (now out) ⌝ }
+    ensures { λ r. ⌜ Wrote (verdictHead (now (verdict .entry))) (now (out .entry)) (now (out .exit)) r ⌝ }
+{
+    let a = text::put(out, &text::words::JUDGE_HEADER);
+    let b = text::writers::more(out, a, &text::words::NEWLINE);
+    let c = text::writers::more(out, b, verdict);
+    text::writers::more(out, c, &text::words::NEWLINE)
+}
+
 // The name of a message.
-fn name_of(messages: [MessageRow; 32], m: Message) -> Name
+fn message_name(messages: [MessageRow; 32], m: Message) -> Name
     requires { ⌜ m .0 < 32 ⌝ }
     ensures { λ r. ⌜ nameText r ≡ nameAt messages (m .0) ⌝ }
 {
@@ -45,17 +65,17 @@ fn step_at(
     count: usize,
     waits: [u32; 32],
     i: usize,
-) -> Step
+) -> NamedStep
     requires { ⌜ GivenWalk count cycle × (i < count) ⌝ }
-    ensures { λ r. ⌜ lineOf r ≡ stepText messages (stepAt (wordIn waits) (firstMessages count cycle) i) ⌝ }
+    ensures { λ r. ⌜ namedLine r ≡ stepText messages (stepAt (wordIn waits) (firstMessages count cycle) i) ⌝ }
 {
     let from = cycle[i];
     let to = cycle[next_place(i, count)];
     let row = waits[from.index()];
-    Step {
-        from: name_of(messages, from),
+    NamedStep {
+        from: message_name(messages, from),
         waits: rows::has(row, to.index()),
-        to: name_of(messages, to),
+        to: message_name(messages, to),
     }
 }
 
@@ -69,7 +89,7 @@ fn unfit_length(
     requires { ⌜ GivenWalk count cycle ⌝ }
     ensures { λ r. ⌜ r ≡ length (unfitText messages (walkSteps waits count cycle)) ⌝ }
 {
-    let mut n = 17;
+    let mut n = BEFORE_STEPS;
     let mut counted = 0;
     while counted < count {
         n += crate::step_lines::step_length(step_at(messages, cycle, count, waits, counted));
@@ -104,18 +124,18 @@ fn more_steps(
 pub fn unfit_listing(
     messages: [MessageRow; 32],
     cycle: [Message; 32],
-    length: usize,
+    count: usize,
     waits: [u32; 32],
     out: &mut [u8],
 ) -> Answer
-    requires { ⌜ GivenWalk length cycle ⌝ }
-    ensures { λ r. ⌜ Listed (unfitText messages (walkSteps waits length cycle)) (now (out .entry)) (now (out .exit)) r ⌝ }
+    requires { ⌜ GivenWalk count cycle ⌝ }
+    ensures { λ r. ⌜ Listed (unfitText messages (walkSteps waits count cycle)) (now (out .entry)) (now (out .exit)) r ⌝ }
 {
-    let needed = unfit_length(messages, cycle, length, waits);
+    let needed = unfit_length(messages, cycle, count, waits);
     if out.len() < needed {
         return answers::no_room(needed);
     }
-    let at = text::put(out, b"vn-judge\t1\nunfit\n");
-    let end = more_steps(out, at, messages, cycle, length, waits);
+    let at = put_verdict(out, &text::words::UNFIT);
+    let end = more_steps(out, at, messages, cycle, count, waits);
     answers::listed(end)
 }

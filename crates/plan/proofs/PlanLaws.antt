@@ -12,21 +12,21 @@ use Rattle.protocol.specs.Reading.{readProtocol}
 use Rattle.answers.specs.declared.Answer.{Answer}
 use Rattle.answers.specs.Answers.{refusedAt, Listed}
 use Rattle.plan_listing.specs.PlanText.{classThree, classTwo, firstMessages, firstNetworks, MessagesBelow}
-use Rattle.verdicts.specs.declared.Planned.{Planned as Found}
-use Rattle.verdicts.specs.Verdicts.{ClassThree, ClassTwo, PlanIs}
-use Rattle.plan.specs.Call.{Planned, Call}
+use Rattle.verdicts.specs.declared.PlanFound.{PlanFound}
+use Rattle.verdicts.specs.Verdicts.{ThreeFound, TwoFound, PlanIs}
+use Rattle.plan.specs.Call.{PlanWritten, Call}
 
-module _ (t : Tables) (v : Found) (is : PlanIs (relationsOfTables t) v) where
+module _ (t : Tables) (v : PlanFound) (is : PlanIs (relationsOfTables t) v) where
   -- there is a count only in class 3
-  three : v .count ≢ 0 → ClassThree (relationsOfTables t) v
-  three h = ⊎-elim (λ (w : ClassThree (relationsOfTables t) v). w) (λ (w : ClassTwo (relationsOfTables t) v). absurd (h (w .none))) is
+  three : v .count ≢ 0 → ThreeFound (relationsOfTables t) v
+  three h = ⊎-elim (λ (w : ThreeFound (relationsOfTables t) v). w) (λ (w : TwoFound (relationsOfTables t) v). absurd (h (w .none))) is
 
-  two : v .count ≡ 0 → ClassTwo (relationsOfTables t) v
-  two h = ⊎-elim (λ (w : ClassThree (relationsOfTables t) v). absurd (omega (arith, h, w .some))) (λ (w : ClassTwo (relationsOfTables t) v). w) is
+  two : v .count ≡ 0 → TwoFound (relationsOfTables t) v
+  two h = ⊎-elim (λ (w : ThreeFound (relationsOfTables t) v). absurd (omega (arith, h, w .some))) (λ (w : TwoFound (relationsOfTables t) v). w) is
 
   pub planned-three : (old new : List ℕ) (r : Answer) → v .count ≢ 0
       → Listed (classThree (take (t .«message_count») (t .messages)) (firstNetworks (t .«message_count») (v .networks)) (v .count)) old new r
-      → Planned t old new r
+      → PlanWritten t old new r
   planned-three old new r h l =
       let w = three h in
       record {
@@ -43,11 +43,11 @@ module _ (t : Tables) (v : Found) (is : PlanIs (relationsOfTables t) v) where
         listed = l;
       }
 
-  pub planned-two : (old new : List ℕ) (r : Answer) → v .count ≡ 0 → Listed (classTwo (t .messages) (firstMessages (v .length) (v .cycle))) old new r → Planned t old new r
+  pub planned-two : (old new : List ℕ) (r : Answer) → v .count ≡ 0 → Listed (classTwo (t .messages) (firstMessages (v .«cycle_length») (v .cycle))) old new r → PlanWritten t old new r
   planned-two old new r h l =
       record {
-        listing = classTwo (t .messages) (firstMessages (v .length) (v .cycle));
-        allowed = inr (record { cycle = firstMessages (v .length) (v .cycle); shown = two h .cycle; is = refl });
+        listing = classTwo (t .messages) (firstMessages (v .«cycle_length») (v .cycle));
+        allowed = inr (record { cycle = firstMessages (v .«cycle_length») (v .cycle); shown = two h .cycle; is = refl });
         listed = l;
       }
 
@@ -55,8 +55,8 @@ module _ (t : Tables) (v : Found) (is : PlanIs (relationsOfTables t) v) where
   pub three-asked : v .count ≢ 0 → v .count ≤ 32
   three-asked h = three h .few
 
-  pub two-asked : v .count ≡ 0 → (v .length ≤ 32) × MessagesBelow (v .length) (firstMessages (v .length) (v .cycle))
-  two-asked h = (two h .few, two h .messages)
+  pub two-asked : v .count ≡ 0 → (v .«cycle_length» ≤ 32) × MessagesBelow (v .«cycle_length») (firstMessages (v .«cycle_length») (v .cycle))
+  two-asked h = (two h .stored .few, two h .stored .messages)
 
 -- ---- the call
 
@@ -68,9 +68,9 @@ module _ (text : List ℕ) (x : Reading) (is : x ≡ readProtocol text) where
         planned = λ z. absurd (h (ap (λ (y : Reading). y .refusal .number) is ∙ z));
       }
 
-  pub call-planned : x .number ≡ 0 → (old new : List ℕ) (r : Answer) → Planned (x .tables) old new r → Call text old new r
+  pub call-planned : x .number ≡ 0 → (old new : List ℕ) (r : Answer) → PlanWritten (x .tables) old new r → Call text old new r
   call-planned z old new r p =
       record {
         refused = λ n. absurd (n (ap (λ (y : Reading). y .refusal .number) (sym is) ∙ z));
-        planned = λ _. subst (λ (y : Reading). Planned (y .tables) old new r) is p;
+        planned = λ _. subst (λ (y : Reading). PlanWritten (y .tables) old new r) is p;
       }

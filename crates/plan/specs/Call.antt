@@ -37,7 +37,7 @@ abbrev pub PlanListing : Tables → List ℕ → Type 0
 PlanListing t listing = Three (messagesOf t) (relationsOfTables t) listing ⊎ Two (t .messages) (relationsOfTables t) listing
 
 -- Such a listing was to be written to the lent bytes, which are `old` at entry and `new` at exit.
-pub record Planned (t : Tables) (old new : List ℕ) (r : Answer) : Type 0 where
+pub record PlanWritten (t : Tables) (old new : List ℕ) (r : Answer) : Type 0 where
   pub listing : List ℕ
   pub allowed : PlanListing t listing
   pub listed : Listed listing old new r
@@ -47,4 +47,4 @@ pub record Planned (t : Tables) (old new : List ℕ) (r : Answer) : Type 0 where
 -- "A plan's protocol is paper 0." The order: 1 to 13 as the text is read, then 16.
 pub record Call (text old new : List ℕ) (r : Answer) : Type 0 where
   pub refused : readProtocol text .refusal .number ≢ 0 → Refused (readProtocol text .refusal .number) 0 (readProtocol text .refusal .line) old new r
-  pub planned : readProtocol text .refusal .number ≡ 0 → Planned (readProtocol text .tables) old new r
+  pub planned : readProtocol text .refusal .number ≡ 0 → PlanWritten (readProtocol text .tables) old new r

@@ -3,14 +3,14 @@ pub mod program;
 
 ghost use Prim.Native.Nat.{_<_};
 ghost use Rattle.tables.specs.Cells.{TablesOk};
-ghost use Rattle.plan.specs.Call.{Planned, Call};
+ghost use Rattle.plan.specs.Call.{PlanWritten, Call};
 use answers::Answer;
 use tables::Tables;
 
 // The plan of a protocol's tables, written to the output if there is room for it.
 fn plan_tables(t: Tables, out: &mut [u8]) -> Answer
     requires { ⌜ TablesOk t × (0 < t .«message_count») ⌝ }
-    ensures { λ r. ⌜ Planned t (now (out .entry)) (now (out .exit)) r ⌝ }
+    ensures { λ r. ⌜ PlanWritten t (now (out .entry)) (now (out .exit)) r ⌝ }
 {
     let found = verdicts::plan_of(t);
     let messages = t.messages;
@@ -25,7 +25,7 @@ fn plan_tables(t: Tables, out: &mut [u8]) -> Answer
         );
     }
     let cycle = found.cycle;
-    plan_listing::cycle::cycle_listing(messages, cycle, found.length, out)
+    plan_listing::cycle::cycle_listing(messages, cycle, found.cycle_length, out)
 }
 
 // The plan of a protocol text.

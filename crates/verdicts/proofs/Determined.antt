@@ -1,26 +1,27 @@
--- The contract determines the messages: two results that it allows are equal.
+-- The contracts of this crate leave one plan, and one judgement.
 use Prim.Native.Nat.{ℕ, _-_}
 use mathlib.Core.Path.{_≡_, refl, sym, ap, ap₂, _∙_}
-use mathlib.Core.List.{List, map, [], _∷_, _++_}
-use Rattle.determined.specs.Determined.{Determines}
-use Rattle.rules.specs.declared.Message.{Message}
-use Rattle.verdicts.specs.Numbers.{asMessage}
-use mathlib.Core.Logic.{inl, inr, _⊎_}
+use mathlib.Core.Logic.{_⊎_, inl, inr}
+use mathlib.Core.List.{List, [], _∷_, _++_, map}
 use native.Mathlib.Omega.{arith}
 use lib.ListN.{length, getD, take, replicate, take-append-drop}
 use lib.Seq.{ext-getD}
+use Rattle.determined.specs.Determined.{Determines}
+use Rattle.rules.specs.declared.Message.{Message}
 use Rattle.rules.specs.declared.Network.{Network}
 use Rattle.rules.specs.Rules.{Relations, Mapping}
 use Rattle.rules.proofs.Promises.{determined, one-class, shown-is-real}
+use Rattle.rows.specs.Determined.{Words}
+use Rattle.rows.proofs.Determined.{words-one}
 use Rattle.tables.specs.declared.Tables.{Tables}
 use Rattle.tables.specs.Cells.{relationsOfTables, number as messageNumber}
 use Rattle.plan_listing.specs.PlanText.{networkNumber, firstMessages, firstNetworks}
-use Rattle.verdicts.specs.declared.Planned.{Planned}
-use Rattle.verdicts.specs.Verdicts.{clearedMessage, MessagesPast, NetworksPast, PlanIs, ClassThree, ClassTwo, mappingOf, Fitting, Unfitting, JudgedIs}
-use Rattle.verdicts.specs.Leaves.{asNetwork}
-use Rattle.rows.specs.Determined.{Words}
-use Rattle.rows.proofs.Determined.{words-one}
-use Rattle.verdicts.specs.declared.Judged.{Judged}
+use Rattle.verdicts.specs.declared.PlanFound.{PlanFound}
+use Rattle.verdicts.specs.declared.JudgementFound.{JudgementFound}
+use Rattle.verdicts.specs.Numbers.{asMessage, asNetwork}
+use Rattle.verdicts.specs.Verdicts.{clearedMessage, NetworksPast, StoredCycle, PlanIs, ThreeFound, TwoFound, mappingOf, Fitting, Unfitting, JudgementIs}
+
+-- ---- arrays, by their first numbers and what is past them
 
 as-messages : (l : List Message) → map asMessage (map messageNumber l) ≡ l
 as-messages [] = refl
@@ -30,13 +31,6 @@ as-networks : (l : List Network) → map asNetwork (map networkNumber l) ≡ l
 as-networks [] = refl
 as-networks (n ∷ l) = ap (λ (k : List Network). n ∷ k) (as-networks l)
 
-pub messages-one : (j k : ℕ) (l m : List Message) → j ≡ k → firstMessages j l ≡ firstMessages k m → MessagesPast j l → MessagesPast k m → l ≡ m
-unfolding firstMessages
-messages-one j k l m e f p q =
-    sym (take-append-drop j l)
-    ∙ ap₂ _++_ (sym (as-messages (take j l)) ∙ ap (map asMessage) f ∙ as-messages (take k m)) (p ∙ ap (λ (i : ℕ). replicate (32 - i) clearedMessage) e ∙ sym q)
-    ∙ take-append-drop k m
-
 networks-one : (n : ℕ) (l m : List Network) → firstNetworks n l ≡ firstNetworks n m → NetworksPast n l → NetworksPast n m → l ≡ m
 unfolding firstNetworks
 networks-one n l m f p q =
@@ -44,15 +38,28 @@ networks-one n l m f p q =
     ∙ ap₂ _++_ (sym (as-networks (take n l)) ∙ ap (map asNetwork) f ∙ as-networks (take n m)) (p ∙ sym q)
     ∙ take-append-drop n m
 
-same-plan : (r s : Planned) → r .count ≡ s .count → r .networks ≡ s .networks → r .length ≡ s .length → r .cycle ≡ s .cycle → r ≡ s
+-- the same cycle is stored in one way
+stored-one : (j k : ℕ) (l m : List Message) → StoredCycle j l → StoredCycle k m → firstMessages j l ≡ firstMessages k m → (j ≡ k) × (l ≡ m)
+unfolding firstMessages
+stored-one j k l m p q f =
+    let e = sym (p .long) ∙ ap length f ∙ q .long in (
+      e,
+      sym (take-append-drop j l)
+          ∙ ap₂ _++_ (sym (as-messages (take j l)) ∙ ap (map asMessage) f ∙ as-messages (take k m)) (p .past ∙ ap (λ (i : ℕ). replicate (32 - i) clearedMessage) e ∙ sym (q .past))
+          ∙ take-append-drop k m,
+    )
+
+-- ---- a plan
+
+same-plan : (r s : PlanFound) → r .count ≡ s .count → r .networks ≡ s .networks → r .«cycle_length» ≡ s .«cycle_length» → r .cycle ≡ s .cycle → r ≡ s
 same-plan r s a b c d =
-    let t : _≡_ {A = Planned}
-    (record { count = r .count; networks = r .networks; length = r .length; cycle = r .cycle })
-    (record { count = s .count; networks = s .networks; length = s .length; cycle = s .cycle }) = cc
+    let t : _≡_ {A = PlanFound}
+    (record { count = r .count; networks = r .networks; «cycle_length» = r .«cycle_length»; cycle = r .cycle })
+    (record { count = s .count; networks = s .networks; «cycle_length» = s .«cycle_length»; cycle = s .cycle }) = cc
     in t
 
-module _ (p : Relations) (r s : Planned) where
-  three-one : ClassThree p r → ClassThree p s → r ≡ s
+module _ (p : Relations) (r s : PlanFound) where
+  three-one : ThreeFound p r → ThreeFound p s → r ≡ s
   three-one f g =
       same-plan r s (determined .least-count p (r .count) (s .count) (f .least) (g .least))
       (networks-one (p .count) (r .networks) (s .networks) first (f .networks-past) (g .networks-past)) (f .no-length ∙ sym (g .no-length)) (f .no-cycle ∙ sym (g .no-cycle))
@@ -62,48 +69,44 @@ module _ (p : Relations) (r s : Planned) where
           ext-getD 0 (firstNetworks (p .count) (r .networks)) (firstNetworks (p .count) (s .networks)) (f .long ∙ sym (g .long))
           (λ i h. determined .mapping p (λ m. getD (firstNetworks (p .count) (r .networks)) m 0) (λ m. getD (firstNetworks (p .count) (s .networks)) m 0) (f .printed) (g .printed) i (omega (arith, f .long)))
 
-  two-one : ClassTwo p r → ClassTwo p s → r ≡ s
+  two-one : TwoFound p r → TwoFound p s → r ≡ s
   two-one f g =
-      same-plan r s (f .none ∙ sym (g .none)) (f .no-networks ∙ sym (g .no-networks)) same
-      (messages-one (r .length) (s .length) (r .cycle) (s .cycle) same first (f .cycle-past) (g .cycle-past))
-    where
-      first : firstMessages (r .length) (r .cycle) ≡ firstMessages (s .length) (s .cycle)
-      first = determined .plan-cycle p (firstMessages (r .length) (r .cycle)) (firstMessages (s .length) (s .cycle)) (f .cycle) (g .cycle)
+      let c = stored-one (r .«cycle_length») (s .«cycle_length») (r .cycle) (s .cycle) (f .stored) (g .stored)
+      (determined .plan-cycle p (firstMessages (r .«cycle_length») (r .cycle)) (firstMessages (s .«cycle_length») (s .cycle)) (f .cycle) (g .cycle)) in
+      same-plan r s (f .none ∙ sym (g .none)) (f .no-networks ∙ sym (g .no-networks)) (c .0) (c .1)
 
-      same : r .length ≡ s .length
-      same = sym (f .long) ∙ ap length first ∙ g .long
-
-pub plan-one : (p : Relations) → Determines (PlanIs p)
+plan-one : (p : Relations) → Determines (PlanIs p)
 plan-one p r s (inl f) (inl g) = three-one p r s f g
-plan-one p r s (inl f) (inr g) = absurd (one-class p (firstMessages (s .length) (s .cycle)) (r .count) (g .cycle) (f .least))
-plan-one p r s (inr f) (inl g) = absurd (one-class p (firstMessages (r .length) (r .cycle)) (s .count) (f .cycle) (g .least))
+plan-one p r s (inl f) (inr g) = absurd (one-class p (firstMessages (s .«cycle_length») (s .cycle)) (r .count) (g .cycle) (f .least))
+plan-one p r s (inr f) (inl g) = absurd (one-class p (firstMessages (r .«cycle_length») (r .cycle)) (s .count) (f .cycle) (g .least))
 plan-one p r s (inr f) (inr g) = two-one p r s f g
 
 pub plan-of-determined : (t : Tables) → Determines (PlanIs (relationsOfTables t))
 plan-of-determined t = plan-one (relationsOfTables t)
 
-same-judgement : (r s : Judged) → r .length ≡ s .length → r .cycle ≡ s .cycle → r .waits ≡ s .waits → r ≡ s
+-- ---- a judgement
+
+same-judgement : (r s : JudgementFound) → r .«cycle_length» ≡ s .«cycle_length» → r .cycle ≡ s .cycle → r .waits ≡ s .waits → r ≡ s
 same-judgement r s a b c =
-    let t : _≡_ {A = Judged} (record { length = r .length; cycle = r .cycle; waits = r .waits }) (record { length = s .length; cycle = s .cycle; waits = s .waits }) = cc in t
+    let t : _≡_ {A = JudgementFound}
+    (record { «cycle_length» = r .«cycle_length»; cycle = r .cycle; waits = r .waits })
+    (record { «cycle_length» = s .«cycle_length»; cycle = s .cycle; waits = s .waits }) = cc
+    in t
 
-module _ (p : Relations) (φ : Mapping) (r s : Judged) where
-  cycle-one : Fitting p φ r ⊎ Unfitting p φ r → Fitting p φ s ⊎ Unfitting p φ s → (r .length ≡ s .length) × (r .cycle ≡ s .cycle)
+module _ (p : Relations) (φ : Mapping) (r s : JudgementFound) where
+  cycle-one : Fitting p φ r ⊎ Unfitting p φ r → Fitting p φ s ⊎ Unfitting p φ s → (r .«cycle_length» ≡ s .«cycle_length») × (r .cycle ≡ s .cycle)
   cycle-one (inl f) (inl g) = (f .none ∙ sym (g .none), f .no-cycle ∙ sym (g .no-cycle))
-  cycle-one (inl f) (inr g) = absurd (f .fit (shown-is-real p .1 φ (firstMessages (s .length) (s .cycle)) (g .cycle)))
-  cycle-one (inr f) (inl g) = absurd (g .fit (shown-is-real p .1 φ (firstMessages (r .length) (r .cycle)) (f .cycle)))
-  cycle-one (inr f) (inr g) = (same, messages-one (r .length) (s .length) (r .cycle) (s .cycle) same first (f .cycle-past) (g .cycle-past))
-    where
-      first : firstMessages (r .length) (r .cycle) ≡ firstMessages (s .length) (s .cycle)
-      first = determined .judge-cycle p φ (firstMessages (r .length) (r .cycle)) (firstMessages (s .length) (s .cycle)) (f .cycle) (g .cycle)
-
-      same : r .length ≡ s .length
-      same = sym (f .long) ∙ ap length first ∙ g .long
+  cycle-one (inl f) (inr g) = absurd (f .fit (shown-is-real p .1 φ (firstMessages (s .«cycle_length») (s .cycle)) (g .cycle)))
+  cycle-one (inr f) (inl g) = absurd (g .fit (shown-is-real p .1 φ (firstMessages (r .«cycle_length») (r .cycle)) (f .cycle)))
+  cycle-one (inr f) (inr g) =
+      stored-one (r .«cycle_length») (s .«cycle_length») (r .cycle) (s .cycle) (f .stored) (g .stored)
+      (determined .judge-cycle p φ (firstMessages (r .«cycle_length») (r .cycle)) (firstMessages (s .«cycle_length») (s .cycle)) (f .cycle) (g .cycle))
 
   -- their rows are arrays of words
-  pub judged-one : Words 32 (r .waits) → Words 32 (s .waits) → JudgedIs p φ r → JudgedIs p φ s → r ≡ s
-  judged-one u v f g =
+  judgement-one : Words 32 (r .waits) → Words 32 (s .waits) → JudgementIs p φ r → JudgementIs p φ s → r ≡ s
+  judgement-one u v f g =
       let c = cycle-one (f .verdict) (g .verdict) in same-judgement r s (c .0) (c .1) (words-one 32 _ (r .waits) (s .waits) u v (f .waits) (g .waits))
 
 pub judge-of-determined : (t : Tables) (networks : List Network)
-    → Determines (λ (r : Judged). Words 32 (r .waits) × JudgedIs (relationsOfTables t) (mappingOf networks) r)
-judge-of-determined t networks r s f g = judged-one (relationsOfTables t) (mappingOf networks) r s (f .0) (g .0) (f .1) (g .1)
+    → Determines (λ (r : JudgementFound). Words 32 (r .waits) × JudgementIs (relationsOfTables t) (mappingOf networks) r)
+judge-of-determined t networks r s f g = judgement-one (relationsOfTables t) (mappingOf networks) r s (f .0) (g .0) (f .1) (g .1)

@@ -1,6 +1,5 @@
-pub mod Made
+pub mod Turning
 pub mod Written
 pub mod Waiting
 pub mod Planning
 pub mod Determined
-pub mod Turning

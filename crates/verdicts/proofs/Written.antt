@@ -9,10 +9,9 @@ use Rattle.rules.specs.declared.Message.{Message}
 use Rattle.rules.proofs.Cycle.{All<, closed-small}
 use Rattle.rows.specs.Rows.{Rows}
 use Rattle.walks.specs.Walks.{Cycle}
-use Rattle.plan_listing.specs.PlanText.{firstMessages, firstNetworks}
-use Rattle.verdicts.specs.Numbers.{asMessage}
-use Rattle.verdicts.specs.Verdicts.{MessagesPast}
-use Rattle.verdicts.specs.Leaves.{asNetwork}
+use Rattle.plan_listing.specs.PlanText.{firstMessages, firstNetworks, MessagesBelow}
+use Rattle.verdicts.specs.Numbers.{asMessage, asNetwork}
+use Rattle.verdicts.specs.Verdicts.{MessagesPast, StoredCycle}
 
 -- ---- the first numbers
 
@@ -61,20 +60,17 @@ module _ (n : ℕ) (few : n ≤ 32) (w s new : List ℕ) (len : ℕ) (c : Cycle 
   pub cycle-first : firstMessages len cycle ≡ take len new
   cycle-first = ap (firstMessages len) is ∙ messages-first len new
 
-  pub cycle-few : len ≤ 32
-  cycle-few = omega (arith, c .fits)
-
   take-long : length (take len new) ≡ len
   take-long = length-take-le len new (omega (arith, c .fits, c .long))
 
-  pub cycle-long : length (firstMessages len cycle) ≡ len
-  cycle-long = ap length cycle-first ∙ take-long
-
-  pub cycle-messages : ¬ (len ≡ 0) → (i : ℕ) → i < len → getD (firstMessages len cycle) i 0 < 32
-  cycle-messages g i h =
+  messages-below : ¬ (len ≡ 0) → MessagesBelow len (firstMessages len cycle)
+  messages-below g i h =
       let a = closed-small n (Rows n w) (Rows n s) (λ a b r. (r .i-below, r .j-below)) (take len new) (c .shown g .closed) in
       let b = all-at n (take len new) a i (omega (arith, take-long)) in
       subst (λ (l : List ℕ). getD l i 0 < 32) (sym cycle-first) (omega (arith, b))
 
   pub cycle-past : MessagesPast len cycle
   cycle-past = ap (drop len) is ∙ past asMessage len 32 new (c .rest)
+
+  pub cycle-stored : ¬ (len ≡ 0) → StoredCycle len cycle
+  cycle-stored g = record { few = omega (arith, c .fits); long = ap length cycle-first ∙ take-long; messages = messages-below g; past = cycle-past }

@@ -1,4 +1,4 @@
-pub mod Verdicts
-pub mod Leaves
 pub mod Numbers
+pub mod Verdicts
+pub mod Planning
 pub mod judgement

@@ -10,9 +10,10 @@ use Rattle.rules.specs.Rules.{MessageNo, Relations, Mapping, Waits, Fit}
 use Rattle.rules.specs.Plan.{LeastCount, Printed, PlanCycle, JudgeCycle}
 use Rattle.rows.specs.Rows.{Bit}
 pub use Rattle.waits.specs.steps.Steps.{mappingOf}
-use Rattle.plan_listing.specs.PlanText.{firstMessages, firstNetworks}
-use Rattle.verdicts.specs.declared.Planned.{Planned}
-use Rattle.verdicts.specs.declared.Judged.{Judged}
+use Rattle.plan_listing.specs.PlanText.{firstMessages, firstNetworks, MessagesBelow}
+use Rattle.verdicts.specs.Numbers.{asMessage, asNetwork}
+use Rattle.verdicts.specs.declared.PlanFound.{PlanFound}
+use Rattle.verdicts.specs.declared.JudgementFound.{JudgementFound}
 
 -- ---- the rows of waits
 
@@ -20,13 +21,13 @@ use Rattle.verdicts.specs.declared.Judged.{Judged}
 abbrev pub WaitsOf : Relations → List ℕ → Type 0
 WaitsOf p rows = (b c : MessageNo) → Bit (getD rows b 0) c ↔ Waits p b c
 
--- ---- what is past a count
+-- ---- what an array holds past a count
 
 abbrev pub clearedMessage : Message
-clearedMessage = record { 0 = 0 }
+clearedMessage = asMessage 0
 
 abbrev pub clearedNetwork : Network
-clearedNetwork = record { 0 = 0 }
+clearedNetwork = asNetwork 0
 
 -- The messages from place n on are cleared.
 abbrev pub MessagesPast : ℕ → List Message → Type 0
@@ -36,49 +37,52 @@ MessagesPast n l = drop n l ≡ replicate (32 - n) clearedMessage
 abbrev pub NetworksPast : ℕ → List Network → Type 0
 NetworksPast n l = drop n l ≡ replicate (32 - n) clearedNetwork
 
+-- A cycle in an array: its messages are the first `count` of the array, each with a row in the tables; the places past them are cleared.
+pub record StoredCycle (count : ℕ) (cycle : List Message) : Type 0 where
+  pub few : count ≤ 32
+  pub long : length (firstMessages count cycle) ≡ count
+  pub messages : MessagesBelow count (firstMessages count cycle)
+  pub past : MessagesPast count cycle
+
 -- ---- a plan
 
 -- Class 3: the least count, and the printed mapping. There is no cycle.
-pub record ClassThree (p : Relations) (r : Planned) : Type 0 where
+pub record ThreeFound (p : Relations) (r : PlanFound) : Type 0 where
   pub some : 0 < r .count
   pub few : r .count ≤ 32
   pub long : length (firstNetworks (p .count) (r .networks)) ≡ p .count
   pub printed : Printed p (λ m. getD (firstNetworks (p .count) (r .networks)) m 0)
   pub least : LeastCount p (r .count)
   pub networks-past : NetworksPast (p .count) (r .networks)
-  pub no-length : r .length ≡ 0
+  pub no-length : r .«cycle_length» ≡ 0
   pub no-cycle : MessagesPast 0 (r .cycle)
 
 -- Class 2: the shown cycle of waits steps. There are no networks.
-pub record ClassTwo (p : Relations) (r : Planned) : Type 0 where
+pub record TwoFound (p : Relations) (r : PlanFound) : Type 0 where
   pub none : r .count ≡ 0
-  pub few : r .length ≤ 32
-  pub long : length (firstMessages (r .length) (r .cycle)) ≡ r .length
-  pub messages : (i : ℕ) → i < r .length → getD (firstMessages (r .length) (r .cycle)) i 0 < 32
-  pub cycle : PlanCycle p (firstMessages (r .length) (r .cycle))
-  pub cycle-past : MessagesPast (r .length) (r .cycle)
+  pub stored : StoredCycle (r .«cycle_length») (r .cycle)
+  pub cycle : PlanCycle p (firstMessages (r .«cycle_length») (r .cycle))
   pub no-networks : NetworksPast 0 (r .networks)
 
-abbrev pub PlanIs : Relations → Planned → Type 0
-PlanIs p r = ClassThree p r ⊎ ClassTwo p r
+-- r is the plan of the relations p.
+abbrev pub PlanIs : Relations → PlanFound → Type 0
+PlanIs p r = ThreeFound p r ⊎ TwoFound p r
 
 -- ---- a judgement
 
 -- Unfit, with the shown cycle.
-pub record Unfitting (p : Relations) (φ : Mapping) (r : Judged) : Type 0 where
-  pub some : 0 < r .length
-  pub few : r .length ≤ 32
-  pub long : length (firstMessages (r .length) (r .cycle)) ≡ r .length
-  pub messages : (i : ℕ) → i < r .length → getD (firstMessages (r .length) (r .cycle)) i 0 < 32
-  pub cycle : JudgeCycle p φ (firstMessages (r .length) (r .cycle))
-  pub cycle-past : MessagesPast (r .length) (r .cycle)
+pub record Unfitting (p : Relations) (φ : Mapping) (r : JudgementFound) : Type 0 where
+  pub some : 0 < r .«cycle_length»
+  pub stored : StoredCycle (r .«cycle_length») (r .cycle)
+  pub cycle : JudgeCycle p φ (firstMessages (r .«cycle_length») (r .cycle))
 
 -- Fit. There is no cycle.
-pub record Fitting (p : Relations) (φ : Mapping) (r : Judged) : Type 0 where
-  pub none : r .length ≡ 0
+pub record Fitting (p : Relations) (φ : Mapping) (r : JudgementFound) : Type 0 where
+  pub none : r .«cycle_length» ≡ 0
   pub fit : Fit p φ
   pub no-cycle : MessagesPast 0 (r .cycle)
 
-pub record JudgedIs (p : Relations) (φ : Mapping) (r : Judged) : Type 0 where
+-- r is the judgement of the mapping φ for the relations p.
+pub record JudgementIs (p : Relations) (φ : Mapping) (r : JudgementFound) : Type 0 where
   pub verdict : Fitting p φ r ⊎ Unfitting p φ r
   pub waits : WaitsOf p (r .waits)

@@ -2,36 +2,36 @@
 ghost use Prim.Native.Nat.{_<_, _≤_};
 ghost use Rattle.tables.specs.Cells.{relationsOfTables, TablesOk};
 ghost use Rattle.walks.specs.Walks.{Within};
-ghost use Rattle.verdicts.specs.Verdicts.{mappingOf, JudgedIs};
-ghost use Rattle.verdicts.specs.judgement.Judging.{RowsJudged};
-use crate::Judged;
+ghost use Rattle.verdicts.specs.Verdicts.{mappingOf, JudgementIs};
+ghost use Rattle.verdicts.specs.judgement.Judging.{JudgementOfRows};
+use crate::JudgementFound;
 use rules::Network;
 use tables::Tables;
 
 // The judgement that the rows give: the shown cycle begins with a waits step.
-fn judge_rows(waits: [u32; 32], steps: [u32; 32], n: usize) -> Judged
+fn judge_of_rows(waits: [u32; 32], steps: [u32; 32], n: usize) -> JudgementFound
     requires { ⌜ (n ≤ 32) × Within n waits steps ⌝ }
-    ensures { λ r. ⌜ RowsJudged waits steps n r ⌝ }
+    ensures { λ r. ⌜ JudgementOfRows waits steps n r ⌝ }
 {
-    let mut bytes = [0u8; 32];
-    let length = walks::cycles::cycle(&waits, &steps, n, &mut bytes);
-    let cycle = crate::messages_of(bytes);
-    Judged {
-        length: length,
+    let mut numbers = [0u8; 32];
+    let cycle_length = walks::cycles::cycle(&waits, &steps, n, &mut numbers);
+    let cycle = crate::messages_of(numbers);
+    JudgementFound {
+        cycle_length: cycle_length,
         cycle: cycle,
         waits: waits,
     }
 }
 
 // The judgement of a mapping, by rule 6.
-pub fn judge_of(t: Tables, networks: [Network; 32]) -> Judged
+pub fn judge_of(t: Tables, networks: [Network; 32]) -> JudgementFound
     requires { ⌜ TablesOk t × (0 < t .«message_count») ⌝ }
-    ensures { λ r. ⌜ JudgedIs (relationsOfTables t) (mappingOf networks) r ⌝ }
+    ensures { λ r. ⌜ JudgementIs (relationsOfTables t) (mappingOf networks) r ⌝ }
 {
     let n = t.message_count;
     let causes = table_rows::causes::causes_rows(t);
     let stalls = table_rows::stalls::stalls_rows(t);
     let waits = waits::waits_of(causes, stalls, n);
     let steps = waits::steps::steps_of(waits, stalls, networks, n);
-    judge_rows(waits, steps, n)
+    judge_of_rows(waits, steps, n)
 }

@@ -2,79 +2,100 @@
 pub mod judgement;
 
 ghost use mathlib.Core.Path.{_≡_};
+ghost use mathlib.Core.List.{map};
 ghost use Prim.Native.Nat.{_<_, _≤_};
 ghost use Rattle.tables.specs.Cells.{relationsOfTables, TablesOk};
 ghost use Rattle.verdicts.specs.Verdicts.{PlanIs};
-ghost use Rattle.verdicts.specs.Leaves.{classThree, classTwo, RowsPlan};
+ghost use Rattle.verdicts.specs.Numbers.{asMessage, asNetwork};
+ghost use Rattle.verdicts.specs.Planning.{rankedPlan, cyclePlan, PlanOfRows};
 use rules::Message;
 use rules::Network;
 use tables::Tables;
-ghost use mathlib.Core.List.{map};
-ghost use Rattle.verdicts.specs.Numbers.{asMessage};
 
 // A plan: the least count and each message's network; or count 0 and the shown cycle.
-pub struct Planned {
+pub struct PlanFound {
     pub count: usize,
     pub networks: [Network; 32],
-    pub length: usize,
+    pub cycle_length: usize,
     pub cycle: [Message; 32],
 }
 
 // A judgement: the shown cycle, of length 0 where the mapping is fit, and the rows of waits.
-pub struct Judged {
-    pub length: usize,
+pub struct JudgementFound {
+    pub cycle_length: usize,
     pub cycle: [Message; 32],
     pub waits: [u32; 32],
 }
 
-// A plan of class 3: the heights that were written are the networks.
-fn ranked(count: usize, bytes: [u8; 32]) -> Planned
-    ensures { λ r. ⌜ r ≡ classThree count bytes ⌝ }
+// The heights that were written, as networks.
+fn networks_of(heights: [u8; 32]) -> [Network; 32]
+    ensures { λ r. ⌜ r ≡ map asNetwork heights ⌝ }
 {
     let mut networks = [Network(0); 32];
     let mut i = 0;
     while i < 32 {
-        let height = bytes[i];
+        let height = heights[i];
         networks[i] = Network(height);
         i += 1;
     }
-    Planned {
+    networks
+}
+
+// The numbers of a cycle that were written, as messages.
+pub(crate) fn messages_of(numbers: [u8; 32]) -> [Message; 32]
+    ensures { λ r. ⌜ r ≡ map asMessage numbers ⌝ }
+{
+    let mut messages = [Message(0); 32];
+    let mut i = 0;
+    while i < 32 {
+        let number = numbers[i];
+        messages[i] = Message(number);
+        i += 1;
+    }
+    messages
+}
+
+// A plan of class 3: there is no cycle.
+fn ranked_plan(count: usize, networks: [Network; 32]) -> PlanFound
+    ensures { λ r. ⌜ r ≡ rankedPlan count networks ⌝ }
+{
+    PlanFound {
         count: count,
         networks: networks,
-        length: 0,
+        cycle_length: 0,
         cycle: [Message(0); 32],
     }
 }
 
-// A plan of class 2: the numbers that were written are the cycle.
-fn cycled(length: usize, bytes: [u8; 32]) -> Planned
-    ensures { λ r. ⌜ r ≡ classTwo length bytes ⌝ }
+// A plan of class 2: the least count is 0, and there are no networks.
+fn cycle_plan(cycle_length: usize, cycle: [Message; 32]) -> PlanFound
+    ensures { λ r. ⌜ r ≡ cyclePlan «cycle_length» cycle ⌝ }
 {
-    let cycle = crate::messages_of(bytes);
-    Planned {
+    PlanFound {
         count: 0,
         networks: [Network(0); 32],
-        length: length,
+        cycle_length: cycle_length,
         cycle: cycle,
     }
 }
 
-// The plan of the rows of waits.
-fn plan_rows(waits: [u32; 32], n: usize) -> Planned
+// The plan of the rows of waits. Heights are networks, and the numbers of a cycle are messages: each is written to bytes of its own.
+fn plan_of_rows(waits: [u32; 32], n: usize) -> PlanFound
     requires { ⌜ (0 < n) × (n ≤ 32) ⌝ }
-    ensures { λ r. ⌜ RowsPlan waits n r ⌝ }
+    ensures { λ r. ⌜ PlanOfRows waits n r ⌝ }
 {
-    let mut bytes = [0u8; 32];
-    let count = walks::heights::heights(&waits, n, &mut bytes);
+    let mut heights = [0u8; 32];
+    let count = walks::heights::heights(&waits, n, &mut heights);
     if count != 0 {
-        return ranked(count, bytes);
+        return ranked_plan(count, networks_of(heights));
     }
-    let length = walks::cycles::cycle(&waits, &waits, n, &mut bytes);
-    cycled(length, bytes)
+    let mut numbers = [0u8; 32];
+    let cycle_length = walks::cycles::cycle(&waits, &waits, n, &mut numbers);
+    cycle_plan(cycle_length, messages_of(numbers))
 }
 
 // The plan of the tables.
-pub fn plan_of(t: Tables) -> Planned
+pub fn plan_of(t: Tables) -> PlanFound
     requires { ⌜ TablesOk t × (0 < t .«message_count») ⌝ }
     ensures { λ r. ⌜ PlanIs (relationsOfTables t) r ⌝ }
 {
@@ -82,21 +103,5 @@ pub fn plan_of(t: Tables) -> Planned
     let causes = table_rows::causes::causes_rows(t);
     let stalls = table_rows::stalls::stalls_rows(t);
     let waits = waits::waits_of(causes, stalls, n);
-    plan_rows(waits, n)
-}
-
-// ---- The numbers that a walk wrote, in a type of their own.
-
-// The numbers that a walk wrote, as messages.
-pub(crate) fn messages_of(bytes: [u8; 32]) -> [Message; 32]
-    ensures { λ r. ⌜ r ≡ map asMessage bytes ⌝ }
-{
-    let mut messages = [Message(0); 32];
-    let mut i = 0;
-    while i < 32 {
-        let byte = bytes[i];
-        messages[i] = Message(byte);
-        i += 1;
-    }
-    messages
+    plan_of_rows(waits, n)
 }

@@ -21,7 +21,7 @@ use Rattle.answers.specs.refused_text.RefusedText.{refusedText}
 use Rattle.answers.proofs.refused_text.RefusedLength.{refused-short}
 use Rattle.verdicts.specs.Verdicts.{mappingOf}
 use Rattle.answers.proofs.Listings.{listed-wrote, refused-parts}
-use Rattle.judge.specs.Call.{Judged, mappedFor, Call}
+use Rattle.judge.specs.Call.{JudgementWritten, mappedFor, Call}
 use Rattle.judge.specs.program.Printed.{JudgePrinted}
 use Rattle.judge.proofs.JudgeLongest.{judge-length}
 
@@ -44,7 +44,7 @@ module _ (x y old new : List ℕ) (r : Answer) (room : 2048 ≤ length old) (c :
   data Answered : Type 0 where
     bad-protocol : Stopped (readProtocol x .refusal .number) 0 (readProtocol x .refusal .line) old new r → Answered
     bad-mapping : readProtocol x .refusal .number ≡ 0 → Stopped (m .number) 1 (m .line) old new r → Answered
-    judgement : readProtocol x .refusal .number ≡ 0 → m .number ≡ 0 → Judged t (mappingOf (m .networks)) old new r → Answered
+    judgement : readProtocol x .refusal .number ≡ 0 → m .number ≡ 0 → JudgementWritten t (mappingOf (m .networks)) old new r → Answered
 
   answered : Answered
   answered = go (eqb (readProtocol x .refusal .number) 0) refl
@@ -66,7 +66,7 @@ module _ (x y old new : List ℕ) (r : Answer) (room : 2048 ≤ length old) (c :
   stopped-number number paper line s e = s .some (sym (refused-parts number paper line old new r (s .refusal) .0) ∙ e)
 
   -- a judgement has number 0
-  judged-wrote : (z : readProtocol x .refusal .number ≡ 0) (j : Judged t (mappingOf (m .networks)) old new r) → (r .number ≡ 0) × Wrote (j .listing) old new (r .length)
+  judged-wrote : (z : readProtocol x .refusal .number ≡ 0) (j : JudgementWritten t (mappingOf (m .networks)) old new r) → (r .number ≡ 0) × Wrote (j .listing) old new (r .length)
   judged-wrote z j =
       listed-wrote (j .listing) old new r (omega (arith, room, judge-length x (j .listing) (mappingOf (m .networks)) z (j .allowed))) (j .listed)
 

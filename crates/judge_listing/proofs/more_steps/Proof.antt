@@ -7,7 +7,7 @@ use native.Mathlib.Omega.{arith}
 use Rattle.text.specs.Written.{Pasted}
 use Rattle.text.proofs.Written.{part-room}
 use Rattle.plan_listing.specs.PlanText.{firstMessages}
-use Rattle.judge_listing.specs.step_lines.StepLine.{lineOf}
+use Rattle.judge_listing.specs.step_lines.StepLine.{namedLine}
 use Rattle.judge_listing.specs.JudgeText.{wordIn}
 use Rattle.judge_listing.proofs.Places.{first-length}
 use Rattle.judge_listing.proofs.StepLines.{firstLines, lines-start, lines-kept, all-lines, line-room, line-pasted}
@@ -35,10 +35,10 @@ here : (c : tie.In-loop Inv-loop μ-loop) → c .before .loop .written < length 
 here c = omega (arith, c .loop-test .taken, walk-long (c .before .before .before))
 
 -- there is room for the next line
-room-here : (c : tie.After-step-at Inv-loop μ-loop) → c .before .before .loop .at + length (lineOf (c .step-at .result)) ≤ length (c .before .before .loop .out)
+room-here : (c : tie.After-step-at Inv-loop μ-loop) → c .before .before .loop .at + length (namedLine (c .step-at .result)) ≤ length (c .before .before .loop .out)
 room-here c =
     let a = c .before .before .before .before .args in
-    line-room (a .messages) (wordIn (a .waits)) (firstMessages (a .count) (a .cycle)) (c .before .before .loop .written) (here (c .before)) (lineOf (c .step-at .result)) (c .step-at .ensures) (a .out .now) (c .before .before .loop .out) (a .start) (c .before .before .loop .at) (c .before .before .before .before .pre .1) (c .before .before .loop .inv .1)
+    line-room (a .messages) (wordIn (a .waits)) (firstMessages (a .count) (a .cycle)) (c .before .before .loop .written) (here (c .before)) (namedLine (c .step-at .result)) (c .step-at .ensures) (a .out .now) (c .before .before .loop .out) (a .start) (c .before .before .loop .at) (c .before .before .before .before .pre .1) (c .before .before .loop .inv .1)
 
 loop-holds : tie.Need-loop-holds Inv-loop μ-loop
 loop-holds c = let a = c .before .args in (search needs, lines-start (a .messages) (wordIn (a .waits)) (firstMessages (a .count) (a .cycle)) (a .start) (a .out .now) (omega (arith, c .before .pre .1)))
@@ -56,7 +56,7 @@ part-put-step-end : tie.Need-part-put-step-end Inv-loop μ-loop
 part-put-step-end c = search needs
 
 put-step-requires : tie.Need-put-step-requires Inv-loop μ-loop
-put-step-requires c κs = part-room (lineOf (c .before .step-at .result)) (c .before .before .before .loop .out) (c .before .before .before .loop .at) (room-here (c .before))
+put-step-requires c κs = part-room (namedLine (c .before .step-at .result)) (c .before .before .before .loop .out) (c .before .before .before .loop .at) (room-here (c .before))
 
 add-at : tie.Need-add-at Inv-loop μ-loop
 add-at c = omega (arith, room-here (c .before .before .before .before), kept (c .before .before .before .before .before .before), c .before .before .put-step .ensures .count)
@@ -70,7 +70,7 @@ loop-less c = omega (arith, c .before .before .before .before .before .loop-test
 loop-again : tie.Need-loop-again Inv-loop μ-loop
 loop-again c = let a = c .before .before .before .before .before .before .before .before .args in (
   omega (arith, c .before .before .before .before .before .loop-test .taken),
-  line-pasted (a .messages) (wordIn (a .waits)) (firstMessages (a .count) (a .cycle)) (c .before .before .before .before .before .before .loop .written) (here (c .before .before .before .before .before)) (lineOf (c .before .before .before .before .step-at .result)) (c .before .before .before .before .step-at .ensures) (a .out .now) (c .before .before .before .before .before .before .loop .out) (a .start) (c .before .before .before .before .before .before .loop .at) (c .before .before .before .before .before .before .before .before .pre .1) (c .before .before .before .before .before .before .loop .inv .1) _ _ (c .before .before .put-step .ensures),
+  line-pasted (a .messages) (wordIn (a .waits)) (firstMessages (a .count) (a .cycle)) (c .before .before .before .before .before .before .loop .written) (here (c .before .before .before .before .before)) (namedLine (c .before .before .before .before .step-at .result)) (c .before .before .before .before .step-at .ensures) (a .out .now) (c .before .before .before .before .before .before .loop .out) (a .start) (c .before .before .before .before .before .before .loop .at) (c .before .before .before .before .before .before .before .before .pre .1) (c .before .before .before .before .before .before .loop .inv .1) _ _ (c .before .before .put-step .ensures),
 )
 
 same-length : tie.Need-same-length Inv-loop μ-loop

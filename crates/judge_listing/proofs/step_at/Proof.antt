@@ -43,8 +43,8 @@ mul-row c = omega (arith, c .index .ensures, from-below (c .before .before .befo
 array-read-row : tie.Need-array-read-row
 array-read-row c = omega (arith, c .index .ensures, from-below (c .before .before .before .before), to-below (c .before .before))
 
-name-of-requires : tie.Need-name-of-requires
-name-of-requires c κs = omega (arith, from-below (c .before .before .before .before), to-below (c .before .before))
+message-name-requires : tie.Need-message-name-requires
+message-name-requires c κs = omega (arith, from-below (c .before .before .before .before), to-below (c .before .before))
 
 index-requires-2 : tie.Need-index-requires-2
 index-requires-2 c κs = search needs
@@ -52,15 +52,15 @@ index-requires-2 c κs = search needs
 has-requires : tie.Need-has-requires
 has-requires c κs = omega (arith, c .index2 .ensures, to-below (c .before .before .before .before))
 
-name-of-requires-2 : tie.Need-name-of-requires-2
-name-of-requires-2 c κs = omega (arith, to-below (c .before .before .before .before .before))
+message-name-requires-2 : tie.Need-message-name-requires-2
+message-name-requires-2 c κs = omega (arith, to-below (c .before .before .before .before .before))
 
 returns : tie.Need-returns
 returns c = let a = c .before .before .before .before .before .before .before .before .args in
     step-line (a .messages) (a .t4) (firstMessages (a .count) (a .t2)) (a .i) _ _ _ _ _ (c .before .before .before .before .index .ensures) (c .before .before .index2 .ensures)
     (sym (first-at (a .count) (a .t2) (a .i) (c .before .before .before .before .before .before .before .before .pre .1)))
     (next-message (a .count) (a .t2) (a .i) (c .before .before .before .before .before .before .next-place .result) (omega (arith, c .before .before .before .before .before .before .before .before .pre .0 .few, long (c .before .before .before .before .before .before .before .before))) (to-place (c .before .before .before .before .before .before)) (c .before .before .before .before .before .before .next-place .ensures))
-    (c .before .before .before .name-of .ensures) (c .name-of2 .ensures) (c .before .has .ensures)
+    (c .before .before .before .message-name .ensures) (c .message-name2 .ensures) (c .before .has .ensures)
 
 pub step-at-spec : {M : Type 1} → statement M
 step-at-spec =
@@ -72,8 +72,8 @@ step-at-spec =
     index-requires
     mul-row
     array-read-row
-    name-of-requires
+    message-name-requires
     index-requires-2
     has-requires
-    name-of-requires-2
+    message-name-requires-2
     returns)

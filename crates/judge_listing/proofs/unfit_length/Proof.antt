@@ -4,9 +4,9 @@ use Prim.Native.Nat.{_+_, _*_, _-_, _≤_}
 use lib.ListN.{length}
 use native.Mathlib.Omega.{arith}
 use Rattle.plan_listing.specs.PlanText.{firstMessages}
-use Rattle.judge_listing.specs.step_lines.StepLine.{lineOf}
+use Rattle.judge_listing.specs.step_lines.StepLine.{namedLine}
 use Rattle.judge_listing.specs.JudgeText.{wordIn}
-use Rattle.judge_listing.specs.Steps.{walkSteps}
+use Rattle.judge_listing.specs.Places.{walkSteps}
 use Rattle.judge_listing.proofs.Places.{first-length}
 use Rattle.judge_listing.proofs.StepLines.{firstLines, no-lines, all-lines, next-length, unfit-length}
 use borrow.Author.Needs.{needs}
@@ -44,7 +44,7 @@ loop-less c = omega (arith, c .before .before .loop-test .taken)
 loop-again : tie.Need-loop-again Inv-loop μ-loop
 loop-again c = let a = c .before .before .before .before .args in (
   omega (arith, c .before .before .loop-test .taken),
-  omega (arith, c .before .before .before .loop .inv .1, c .step-length .ensures .0, next-length (a .messages) (wordIn (a .waits)) (firstMessages (a .count) (a .cycle)) (c .before .before .before .loop .counted) (omega (arith, c .before .before .loop-test .taken, walk-long (c .before .before .before .before))) (lineOf (c .before .step-at .result)) (c .before .step-at .ensures)),
+  omega (arith, c .before .before .before .loop .inv .1, c .step-length .ensures .0, next-length (a .messages) (wordIn (a .waits)) (firstMessages (a .count) (a .cycle)) (c .before .before .before .loop .counted) (omega (arith, c .before .before .loop-test .taken, walk-long (c .before .before .before .before))) (namedLine (c .before .step-at .result)) (c .before .step-at .ensures)),
   omega (arith, c .before .before .before .loop .inv .2, c .step-length .ensures .1),
 )
 

@@ -1,32 +1,36 @@
 -- `judge_listing::unfit_listing` meets its contract.
 use mathlib.Core.List.{List, _++_}
 use Prim.Native.Nat.{ℕ, _≤_}
-use lib.ListN.{length, length-append}
+use lib.ListN.{length}
 use native.Mathlib.Omega.{arith}
+use Rattle.plan_listing.proofs.Growing.{front-room}
 use Rattle.text.specs.Words.{unfitWord}
-use Rattle.text.specs.Written.{Wrote}
 use Rattle.text.proofs.Written.{more-room, then-more}
 use Rattle.judge_listing.specs.fit.FitText.{verdictHead}
 use Rattle.judge_listing.specs.JudgeText.{stepTexts, unfitText}
-use Rattle.judge_listing.specs.Steps.{walkSteps}
+use Rattle.judge_listing.specs.Places.{walkSteps}
 use Rattle.answers.proofs.Listings.{listing-refused, listing-written}
-use Rattle.judge_listing.proofs.fit.Lengths.{verdict-length}
 use borrow.Author.Needs.{needs}
 use Rattle.judge_listing.proofs.unfit_listing.Statement.{statement}
 use Rattle.judge_listing.proofs.unfit_listing.Tie as tie
 
 abbrev Lines : tie.Start → List ℕ
-Lines c = stepTexts (c .args .messages) (walkSteps (c .args .waits) (c .args .length) (c .args .cycle))
+Lines s = stepTexts (s .args .messages) (walkSteps (s .args .waits) (s .args .count) (s .args .cycle))
+
+abbrev old : tie.Start → List ℕ
+old s = s .args .out .now
+
+abbrev start : tie.Else1 → tie.Start
+start e = e .before .before .before
+
+-- from behind the head back to the test
+abbrev tested : tie.After-put-verdict → tie.Else1
+tested c = c .before .before .before
 
 -- past the test there is room for the listing
-room : (c : tie.Else1) → length (verdictHead unfitWord ++ Lines (c .before .before .before)) ≤ length (c .before .before .before .args .out .now)
+room : (e : tie.Else1) → length (verdictHead unfitWord ++ Lines (start e)) ≤ length (old (start e))
 unfolding unfitText
-room c = omega (arith, c .if1 .left, c .before .unfit-length .ensures)
-
--- the head is written
-head : (c : tie.After-put) → Wrote (verdictHead unfitWord) (c .before .before .before .before .before .before .args .out .now) (c .put .last .0) (c .put .result)
-unfolding verdictHead
-head c = c .put .ensures
+room e = omega (arith, e .if1 .left, e .before .unfit-length .ensures)
 
 unfit-length-requires : tie.Need-unfit-length-requires
 unfit-length-requires c κs = search needs
@@ -35,16 +39,22 @@ no-room-requires : tie.Need-no-room-requires
 no-room-requires c κs = search needs
 
 returns : tie.Need-returns
-returns c = listing-refused (unfitText (c .before .before .before .before .args .messages) (walkSteps (c .before .before .before .before .args .waits) (c .before .before .before .before .args .length) (c .before .before .before .before .args .cycle))) (c .before .before .before .before .args .out .now) (c .before .before .unfit-length .result) _ (c .before .before .unfit-length .ensures) (c .before .if1 .taken) (c .no-room .ensures)
+returns c =
+    let n = c .before .before in
+    let a = n .before .before .args in
+    listing-refused (unfitText (a .messages) (walkSteps (a .waits) (a .count) (a .cycle))) (a .out .now) (n .unfit-length .result) _ (n .unfit-length .ensures) (c .before .if1 .taken) (c .no-room .ensures)
 
-slice-aggregate-put : tie.Need-slice-aggregate-put
-slice-aggregate-put c = search needs
+slice-aggregate-put-verdict : tie.Need-slice-aggregate-put-verdict
+slice-aggregate-put-verdict c = search needs
 
-put-requires : tie.Need-put-requires
-put-requires c κs = omega (arith, room (c .before .before), length-append (verdictHead unfitWord) (Lines (c .before .before .before .before .before)), verdict-length unfitWord)
+put-verdict-requires : tie.Need-put-verdict-requires
+put-verdict-requires c κs = let e = c .before .before in front-room (verdictHead unfitWord) (Lines (start e)) (old (start e)) (room e)
 
 more-steps-requires : tie.Need-more-steps-requires
-more-steps-requires c κs = (c .before .before .before .before .before .before .before .before .before .pre, more-room (verdictHead unfitWord) (Lines (c .before .before .before .before .before .before .before .before .before)) (c .before .before .before .before .before .before .before .before .before .args .out .now) _ _ (room (c .before .before .before .before .before .before)) (head (c .before .before .before)))
+more-steps-requires c κs =
+    let h = c .before .before .before in
+    let e = tested h in
+    (start e .pre, more-room (verdictHead unfitWord) (Lines (start e)) (old (start e)) _ _ (room e) (h .put-verdict .ensures))
 
 listed-requires : tie.Need-listed-requires
 listed-requires c κs = search needs
@@ -54,7 +64,12 @@ same-length c = search needs
 
 returns-2 : tie.Need-returns-2
 unfolding unfitText
-returns-2 c = listing-written (verdictHead unfitWord ++ Lines (c .before .before .before .before .before .before .before .before .before .before .before .before .before)) (c .before .before .before .before .before .before .before .before .before .before .before .before .before .args .out .now) _ (c .before .before .before .more-steps .result) _ (room (c .before .before .before .before .before .before .before .before .before .before)) (then-more (verdictHead unfitWord) (Lines (c .before .before .before .before .before .before .before .before .before .before .before .before .before)) (c .before .before .before .before .before .before .before .before .before .before .before .before .before .args .out .now) _ _ (room (c .before .before .before .before .before .before .before .before .before .before)) (head (c .before .before .before .before .before .before .before)) _ _ (c .before .before .before .more-steps .ensures)) (c .listed .ensures)
+returns-2 c =
+    let m = c .before .before .before in
+    let h = m .before .before .before .before in
+    let e = tested h in
+    listing-written (verdictHead unfitWord ++ Lines (start e)) (old (start e)) _ (m .more-steps .result) _ (room e)
+    (then-more (verdictHead unfitWord) (Lines (start e)) (old (start e)) _ _ (room e) (h .put-verdict .ensures) _ _ (m .more-steps .ensures)) (c .listed .ensures)
 
 pub unfit-listing-spec : {M : Type 1} → statement M
 unfit-listing-spec =
@@ -63,8 +78,8 @@ unfit-listing-spec =
     unfit-length-requires
     no-room-requires
     returns
-    slice-aggregate-put
-    put-requires
+    slice-aggregate-put-verdict
+    put-verdict-requires
     more-steps-requires
     listed-requires
     same-length

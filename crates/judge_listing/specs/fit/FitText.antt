@@ -6,10 +6,11 @@ use mathlib.Core.List.{List, _++_}
 use lib.ListN.{length}
 use Rattle.text.specs.Words.{judgeHeader, fitWord, newline}
 
--- The header and the verdict.
+-- The header and the verdict, a line each.
 unfoldable pub verdictHead : List ℕ → List ℕ
 verdictHead verdict = ((judgeHeader ++ newline) ++ verdict) ++ newline
 
+-- Fit: nothing follows the verdict.
 unfoldable pub fitText : List ℕ
 fitText = verdictHead fitWord
 

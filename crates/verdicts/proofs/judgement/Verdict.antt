@@ -23,9 +23,9 @@ use Rattle.tables.proofs.InRange.{relations-accepted, rows-stalls}
 use Rattle.verdicts.specs.Numbers.{asMessage}
 use Rattle.verdicts.specs.Verdicts.{WaitsOf, MessagesPast, Fitting, Unfitting}
 use Rattle.waits.specs.steps.Steps.{StepsRows}
-use Rattle.verdicts.specs.judgement.Judging.{StepsOf, RowsJudged}
+use Rattle.verdicts.specs.judgement.Judging.{StepsTold, JudgementOfRows}
 use Rattle.verdicts.proofs.Waiting.{rows-waits}
-use Rattle.verdicts.proofs.Written.{cycle-first, cycle-few, cycle-long, cycle-messages, cycle-past}
+use Rattle.verdicts.proofs.Written.{cycle-first, cycle-past, cycle-stored}
 
 -- ---- the rows of steps are those of the rules
 
@@ -48,7 +48,7 @@ module _ (t : Tables) (ok : TablesOk t) (some : 0 < t .«message_count») (φ : 
     stalled = (q .stalled .0, rows-stalls t ok some stalls g (q .stalled .0) k .1 (q .stalled .1));
   }
 
-  pub steps-told : (waits steps : List ℕ) → WaitsOf (relationsOfTables t) waits → StepsRows waits stalls φ (t .«message_count») steps → StepsOf t φ steps
+  pub steps-told : (waits steps : List ℕ) → WaitsOf (relationsOfTables t) waits → StepsRows waits stalls φ (t .«message_count») steps → StepsTold t φ steps
   steps-told waits steps w f m k h = (
     λ b. ⊎-elim (λ x. inl (w m k .0 x)) (λ q. inr (queues-there m k q)) (f .bits m k h .0 b),
     λ x. f .bits m k h .1 (⊎-elim (λ y. inl (w m k .1 y)) (λ q. inr (queues-back m k q)) x),
@@ -73,10 +73,10 @@ module _ (p : Relations) (acc : Accepted p) (few : p .count ≤ 32) (φ : Mappin
   same-steps a b = (λ r. s a b (r .i-below) .0 (r .bit), λ x. let h = step-within p acc φ a b x in record { i-below = h .0; j-below = h .1; bit = s a b (h .0) .1 x })
 
   module _ (new : List ℕ) (len : ℕ) (c : Cycle waits steps (p .count) (replicate 32 0) new len) (cycle : List Message) (is : cycle ≡ map asMessage new) where
-    verdict : Fitting p φ (record { length = len; cycle = cycle; waits = waits }) ⊎ Unfitting p φ (record { length = len; cycle = cycle; waits = waits })
+    verdict : Fitting p φ (record { «cycle_length» = len; cycle = cycle; waits = waits }) ⊎ Unfitting p φ (record { «cycle_length» = len; cycle = cycle; waits = waits })
     verdict = go (ℕ-discrete len 0)
       where
-        go : Dec (len ≡ 0) → Fitting p φ (record { length = len; cycle = cycle; waits = waits }) ⊎ Unfitting p φ (record { length = len; cycle = cycle; waits = waits })
+        go : Dec (len ≡ 0) → Fitting p φ (record { «cycle_length» = len; cycle = cycle; waits = waits }) ⊎ Unfitting p φ (record { «cycle_length» = len; cycle = cycle; waits = waits })
         go (yes z) = inl (
             record {
               none = z;
@@ -90,18 +90,15 @@ module _ (p : Relations) (acc : Accepted p) (few : p .count ≤ 32) (φ : Mappin
         go (no g) = inr (
             record {
               some = omega arith;
-              few = cycle-few (p .count) few waits steps new len c cycle is;
-              long = cycle-long (p .count) few waits steps new len c cycle is;
-              messages = cycle-messages (p .count) few waits steps new len c cycle is g;
+              stored = cycle-stored (p .count) few waits steps new len c cycle is g;
               cycle =
                   subst (JudgeCycle p φ) (sym (cycle-first (p .count) few waits steps new len c cycle is))
                   (shown-same (Rows (p .count) waits) (Waits p) (Rows (p .count) steps) (Step p φ) (rows-waits p acc waits w) same-steps (take len new) (c .shown g));
-              cycle-past = cycle-past (p .count) few waits steps new len c cycle is;
             }
             )
 
 pub judged : (waits steps : List ℕ) (n : ℕ) → n ≤ 32 → (new : List ℕ) (len : ℕ) → Cycle waits steps n (replicate 32 0) new len → (cycle : List Message) → cycle ≡ map asMessage new
-    → RowsJudged waits steps n (record { length = len; cycle = cycle; waits = waits })
+    → JudgementOfRows waits steps n (record { «cycle_length» = len; cycle = cycle; waits = waits })
 judged waits steps n few new len c cycle is t φ ok some e w s = record {
   verdict = verdict (relationsOfTables t) (relations-accepted t ok (omega arith)) (omega arith) φ waits steps w s new len (subst (λ (k : ℕ). Cycle waits steps k (replicate 32 0) new len) (sym e) c) cycle is;
   waits = w;

@@ -1,4 +1,4 @@
--- `walked::messages_of` meets its contract.
+-- `verdicts::messages_of` meets its contract.
 use Prim.Native.Nat.{_-_}
 use native.Mathlib.Omega.{arith}
 use borrow.Author.Needs.{needs}
@@ -8,16 +8,16 @@ use Rattle.verdicts.proofs.messages_of.Statement.{statement}
 use Rattle.verdicts.proofs.messages_of.Tie as tie
 
 abbrev Inv-loop : tie.InvT-loop
-Inv-loop bytes messages₀ i₀ messages i = Turned asMessage bytes i messages
+Inv-loop numbers messages₀ i₀ messages i = Turned asMessage numbers i messages
 
 abbrev μ-loop : tie.MeasureT-loop
-μ-loop bytes messages₀ i₀ messages i = 32 - i
+μ-loop numbers messages₀ i₀ messages i = 32 - i
 
 loop-holds : tie.Need-loop-holds Inv-loop μ-loop
 loop-holds c = turned-none asMessage (c .args .t1) _ (search needs)
 
-array-read-byte : tie.Need-array-read-byte Inv-loop μ-loop
-array-read-byte c = omega arith
+array-read-number : tie.Need-array-read-number Inv-loop μ-loop
+array-read-number c = omega arith
 
 array-set-from-messages : tie.Need-array-set-from-messages Inv-loop μ-loop
 array-set-from-messages c = omega arith
@@ -41,7 +41,7 @@ messages-of-spec =
     Inv-loop
     μ-loop
     loop-holds
-    array-read-byte
+    array-read-number
     array-set-from-messages
     add-i
     loop-less

@@ -15,8 +15,8 @@ waits-of-requires c κs =
     let s = c .before .before in
     (s .pre .0 .messages, causes-tidy (s .args .t) (s .pre .0) (s .pre .1) (c .before .causes-rows .result) (c .before .causes-rows .ensures), stalls-tidy (s .args .t) (s .pre .0) (s .pre .1) (c .stalls-rows .result) (c .stalls-rows .ensures))
 
-plan-rows-requires : tie.Need-plan-rows-requires
-plan-rows-requires c κs = let s = c .before .before .before in (s .pre .1, s .pre .0 .messages)
+plan-of-rows-requires : tie.Need-plan-of-rows-requires
+plan-of-rows-requires c κs = let s = c .before .before .before in (s .pre .1, s .pre .0 .messages)
 
 returns : tie.Need-returns
 returns c =
@@ -24,7 +24,7 @@ returns c =
     let w = c .before .waits-of in
     let g = c .before .before .stalls-rows in
     let f = c .before .before .before .causes-rows in
-    c .plan-rows .ensures (s .args .t) (s .pre .0) (s .pre .1) refl
+    c .plan-of-rows .ensures (s .args .t) (s .pre .0) (s .pre .1) refl
     (waits-told (s .args .t) (s .pre .0) (s .pre .1) (f .result) (g .result) (f .ensures) (g .ensures) (w .result) (w .ensures))
 
 pub plan-of-spec : {M : Type 1} → statement M
@@ -34,5 +34,5 @@ plan-of-spec =
     causes-rows-requires
     stalls-rows-requires
     waits-of-requires
-    plan-rows-requires
+    plan-of-rows-requires
     returns)

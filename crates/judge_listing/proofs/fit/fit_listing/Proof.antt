@@ -1,5 +1,7 @@
--- `fit_listing::fit_listing` meets its contract.
+-- `fit::fit_listing` meets its contract.
 use mathlib.Core.Path.{refl}
+use Prim.Native.Nat.{_≤_}
+use lib.ListN.{length}
 use native.Mathlib.Omega.{arith}
 use Rattle.text.specs.Words.{fitWord}
 use Rattle.judge_listing.specs.fit.FitText.{verdictHead, fitText}
@@ -9,6 +11,10 @@ use borrow.Author.Needs.{needs}
 use Rattle.judge_listing.proofs.fit.fit_listing.Statement.{statement}
 use Rattle.judge_listing.proofs.fit.fit_listing.Tie as tie
 
+-- past the test there is room for the listing
+room : (c : tie.Else1) → length (verdictHead fitWord) ≤ length (c .before .before .args .out .now)
+room c = omega (arith, verdict-length fitWord, c .if1 .left)
+
 no-room-requires : tie.Need-no-room-requires
 no-room-requires c κs = search needs
 
@@ -16,11 +22,11 @@ returns : tie.Need-returns
 unfolding fitText verdictHead
 returns c = record { no-room = λ _. record { answer = cc; bytes = refl }; room = λ k. absurd (omega arith) }
 
-slice-aggregate-put : tie.Need-slice-aggregate-put
-slice-aggregate-put c = search needs
+slice-aggregate-put-verdict : tie.Need-slice-aggregate-put-verdict
+slice-aggregate-put-verdict c = search needs
 
-put-requires : tie.Need-put-requires
-put-requires c κs = omega (arith, c .before .before .if1 .left)
+put-verdict-requires : tie.Need-put-verdict-requires
+put-verdict-requires c κs = room (c .before .before)
 
 listed-requires : tie.Need-listed-requires
 listed-requires c κs = search needs
@@ -29,8 +35,11 @@ same-length : tie.Need-same-length
 same-length c = search needs
 
 returns-2 : tie.Need-returns-2
-unfolding fitText verdictHead
-returns-2 c = listing-written (verdictHead fitWord) (c .before .before .before .before .before .before .before .before .args .out .now) _ _ _ (omega (arith, verdict-length fitWord, c .before .before .before .before .before .before .if1 .left)) (c .before .before .before .put .ensures) (c .listed .ensures)
+unfolding fitText
+returns-2 c =
+    let w = c .before .before .before in
+    let e = w .before .before .before in
+    listing-written (verdictHead fitWord) (e .before .before .args .out .now) _ _ _ (room e) (w .put-verdict .ensures) (c .listed .ensures)
 
 pub fit-listing-spec : {M : Type 1} → statement M
 fit-listing-spec =
@@ -38,8 +47,8 @@ fit-listing-spec =
     (tie.spec
     no-room-requires
     returns
-    slice-aggregate-put
-    put-requires
+    slice-aggregate-put-verdict
+    put-verdict-requires
     listed-requires
     same-length
     returns-2)

@@ -29,8 +29,8 @@ waits-are c =
 steps-of-requires : tie.Need-steps-of-requires
 steps-of-requires c κs = c .before .before .before .pre .0 .messages
 
-judge-rows-requires : tie.Need-judge-rows-requires
-judge-rows-requires c κs =
+judge-of-rows-requires : tie.Need-judge-of-rows-requires
+judge-of-rows-requires c κs =
     let s = c .before .before .before .before in
     (s .pre .0 .messages, steps-within (c .before .waits-of .result) _ (mappingOf (s .args .networks)) (s .args .t .«message_count») (c .steps-of .result) (c .steps-of .ensures))
 
@@ -41,7 +41,7 @@ returns c =
     let w = c .before .before .waits-of in
     let f = c .before .steps-of in
     let told = waits-are (c .before .before) in
-    c .judge-rows .ensures (s .args .t) (mappingOf (s .args .networks)) (s .pre .0) (s .pre .1) refl told
+    c .judge-of-rows .ensures (s .args .t) (mappingOf (s .args .networks)) (s .pre .0) (s .pre .1) refl told
     (steps-told (s .args .t) (s .pre .0) (s .pre .1) (mappingOf (s .args .networks)) (g .result) (g .ensures) (w .result) (f .result) told (f .ensures))
 
 pub judge-of-spec : {M : Type 1} → statement M
@@ -52,5 +52,5 @@ judge-of-spec =
     stalls-rows-requires
     waits-of-requires
     steps-of-requires
-    judge-rows-requires
+    judge-of-rows-requires
     returns)

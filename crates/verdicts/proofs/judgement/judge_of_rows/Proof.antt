@@ -1,8 +1,8 @@
--- `judgement::judge_rows` meets its contract.
+-- `judgement::judge_of_rows` meets its contract.
 use borrow.Author.Needs.{needs}
 use Rattle.verdicts.proofs.judgement.Verdict.{judged}
-use Rattle.verdicts.proofs.judgement.judge_rows.Statement.{statement}
-use Rattle.verdicts.proofs.judgement.judge_rows.Tie as tie
+use Rattle.verdicts.proofs.judgement.judge_of_rows.Statement.{statement}
+use Rattle.verdicts.proofs.judgement.judge_of_rows.Tie as tie
 
 slice-aggregate-cycle : tie.Need-slice-aggregate-cycle
 slice-aggregate-cycle c = search needs
@@ -25,8 +25,8 @@ returns c =
     let y = c .before .before .cycle in
     judged _ _ (s .args .n) (s .pre .0) (y .last .1 .1 .1 .0) (y .result) (y .ensures) (c .messages-of .result) (c .messages-of .ensures)
 
-pub judge-rows-spec : {M : Type 1} → statement M
-judge-rows-spec =
+pub judge-of-rows-spec : {M : Type 1} → statement M
+judge-of-rows-spec =
     tie.close
     (tie.spec
     slice-aggregate-cycle

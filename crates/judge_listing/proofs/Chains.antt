@@ -46,5 +46,16 @@ module _ (p q r s t old : List ℕ) (room : length ((((p ++ q) ++ r) ++ s) ++ t)
   pub fifth-room : d + length t ≤ length n₄
   fifth-room = more-room (((p ++ q) ++ r) ++ s) t old n₄ d room four
 
-  pub all-five : (n₅ : List ℕ) (e : ℕ) → Pasted t d n₄ n₅ e → Wrote ((((p ++ q) ++ r) ++ s) ++ t) old n₅ e
+  all-five : (n₅ : List ℕ) (e : ℕ) → Pasted t d n₄ n₅ e → Wrote ((((p ++ q) ++ r) ++ s) ++ t) old n₅ e
   all-five n₅ e w₅ = then-more (((p ++ q) ++ r) ++ s) t old n₄ d room four n₅ e w₅
+
+-- six texts
+module _ (p q r s t u old : List ℕ) (room : length (((((p ++ q) ++ r) ++ s) ++ t) ++ u) ≤ length old) (n₁ : List ℕ) (a : ℕ) (w₁ : Wrote p old n₁ a) (n₂ : List ℕ) (b : ℕ) (w₂ : Pasted q a n₁ n₂ b) (n₃ : List ℕ) (c : ℕ) (w₃ : Pasted r b n₂ n₃ c) (n₄ : List ℕ) (d : ℕ) (w₄ : Pasted s c n₃ n₄ d) (n₅ : List ℕ) (e : ℕ) (w₅ : Pasted t d n₄ n₅ e) where
+  five : Wrote ((((p ++ q) ++ r) ++ s) ++ t) old n₅ e
+  five = all-five p q r s t old (front-room ((((p ++ q) ++ r) ++ s) ++ t) u old room) n₁ a w₁ n₂ b w₂ n₃ c w₃ n₄ d w₄ n₅ e w₅
+
+  pub sixth-room : e + length u ≤ length n₅
+  sixth-room = more-room ((((p ++ q) ++ r) ++ s) ++ t) u old n₅ e room five
+
+  pub all-six : (n₆ : List ℕ) (f : ℕ) → Pasted u e n₅ n₆ f → Wrote (((((p ++ q) ++ r) ++ s) ++ t) ++ u) old n₆ f
+  all-six n₆ f w₆ = then-more ((((p ++ q) ++ r) ++ s) ++ t) u old n₅ e room five n₆ f w₆

@@ -7,26 +7,22 @@ use lib.Dec.{ltb}
 use Rattle.rules.specs.declared.Message.{Message}
 use Rattle.rules.specs.Rules.{MessageNo}
 use Rattle.rules.specs.Plan.{Word}
-use Rattle.plan_listing.specs.PlanText.{firstMessages}
-use Rattle.judge_listing.specs.JudgeText.{ShownStep, stepsOf, wordIn}
+use Rattle.plan_listing.specs.PlanText.{firstMessages, MessagesBelow}
+use Rattle.judge_listing.specs.JudgeText.{ShownStep, stepOf, stepsAround, wordIn}
 
 -- A closed walk as it is given: 1 to 32 messages, each with a row in the tables.
-pub record GivenWalk (length : ℕ) (cycle : List Message) : Type 0 where
-  pub some : 0 < length
-  pub few : length ≤ 32
-  pub messages : (i : ℕ) → i < length → getD (firstMessages length cycle) i 0 < 32
+pub record GivenWalk (count : ℕ) (cycle : List Message) : Type 0 where
+  pub some : 0 < count
+  pub few : count ≤ 32
+  pub messages : MessagesBelow count (firstMessages count cycle)
 
 -- The steps of the walk, their words by the rows of waits.
 abbrev pub walkSteps : List ℕ → ℕ → List Message → List ShownStep
-walkSteps waits count cycle = stepsOf (wordIn waits) (firstMessages count cycle)
+walkSteps waits count cycle = stepsAround (wordIn waits) (firstMessages count cycle)
 
 -- The place after i in a closed walk of n messages: behind the last one stands the first.
 unfoldable pub nextPlace : ℕ → ℕ → ℕ
 nextPlace n i = cond (ltb (i + 1) n) (i + 1) 0
-
--- The step from one message to another.
-abbrev pub stepOf : (MessageNo → MessageNo → Word) → MessageNo → MessageNo → ShownStep
-stepOf w a b = record { from = a; word = w a b; to = b }
 
 -- The step at place i of the closed walk l.
 unfoldable pub stepAt : (MessageNo → MessageNo → Word) → List MessageNo → ℕ → ShownStep
