@@ -76,7 +76,7 @@ after-one t y old new₁ new₂ r s c d = go (eqb (mappedFor t y .refusal .numbe
         judged-one t (mappingOf (mappedFor t y .networks)) old new₁ new₂ r s (c .judged a) (d .judged a)
     go false e =
         let n = eqb-false (mappedFor t y .refusal .number) 0 e in
-        refusal-determined (mappedFor t y .refusal .number) 1 (mappedFor t y .refusal .line) old new₁ new₂ r s (c .mapping-refused n) (d .mapping-refused n)
+        refusal-determined (mappedFor t y .refusal) 1 old new₁ new₂ r s (c .mapping-refused n) (d .mapping-refused n)
 
 pub judge-determined : JudgeDetermined
 judge-determined x y old new₁ new₂ r s c d = go (eqb (readProtocol x .refusal .number) 0) refl
@@ -87,7 +87,7 @@ judge-determined x y old new₁ new₂ r s c d = go (eqb (readProtocol x .refusa
         after-one (readProtocol x .tables) y old new₁ new₂ r s (c .protocol-accepted z) (d .protocol-accepted z)
     go false e =
         let n = eqb-false (readProtocol x .refusal .number) 0 e in
-        refusal-determined (readProtocol x .refusal .number) 0 (readProtocol x .refusal .line) old new₁ new₂ r s (c .protocol-refused n) (d .protocol-refused n)
+        refusal-determined (readProtocol x .refusal) 0 old new₁ new₂ r s (c .protocol-refused n) (d .protocol-refused n)
 
 -- ---- What the judging program prints is determined: the count and the lent bytes.
 

@@ -81,14 +81,14 @@ module _ (t : Tables) (φ : Mapping) (v : JudgementFound) (is : JudgementIs (rel
 -- ---- the mapping
 
 module _ (t : Tables) (y : List ℕ) (m : Mapped) (is : m ≡ mappedFor t y) where
-  pub after-refused : m .number ≢ 0 → (old : List ℕ) (r : Answer) → r ≡ refusedAt (m .number) 1 (m .line) → AfterProtocol t y old old r
+  pub after-refused : m .refusal .number ≢ 0 → (old : List ℕ) (r : Answer) → r ≡ refusedAt (m .refusal) 1 → AfterProtocol t y old old r
   after-refused h old r e =
       record {
-        mapping-refused = λ n. record { answer = e ∙ ap (λ (z : Mapped). refusedAt (z .number) 1 (z .line)) is; bytes = refl };
+        mapping-refused = λ n. record { answer = e ∙ ap (λ (z : Mapped). refusedAt (z .refusal) 1) is; bytes = refl };
         judged = λ z. absurd (h (ap (λ (k : Mapped). k .refusal .number) is ∙ z));
       }
 
-  pub after-judged : m .number ≡ 0 → (old new : List ℕ) (r : Answer) → JudgementWritten t (mappingOf (m .networks)) old new r → AfterProtocol t y old new r
+  pub after-judged : m .refusal .number ≡ 0 → (old new : List ℕ) (r : Answer) → JudgementWritten t (mappingOf (m .networks)) old new r → AfterProtocol t y old new r
   after-judged z old new r j =
       record {
         mapping-refused = λ n. absurd (n (ap (λ (k : Mapped). k .refusal .number) (sym is) ∙ z));
@@ -98,14 +98,14 @@ module _ (t : Tables) (y : List ℕ) (m : Mapped) (is : m ≡ mappedFor t y) whe
 -- ---- the call
 
 module _ (x y : List ℕ) (p : Reading) (is : p ≡ readProtocol x) where
-  pub call-refused : p .number ≢ 0 → (old : List ℕ) (r : Answer) → r ≡ refusedAt (p .number) 0 (p .line) → Call x y old old r
+  pub call-refused : p .refusal .number ≢ 0 → (old : List ℕ) (r : Answer) → r ≡ refusedAt (p .refusal) 0 → Call x y old old r
   call-refused h old r e =
       record {
-        protocol-refused = λ n. record { answer = e ∙ ap (λ (z : Reading). refusedAt (z .number) 0 (z .line)) is; bytes = refl };
+        protocol-refused = λ n. record { answer = e ∙ ap (λ (z : Reading). refusedAt (z .refusal) 0) is; bytes = refl };
         protocol-accepted = λ z. absurd (h (ap (λ (k : Reading). k .refusal .number) is ∙ z));
       }
 
-  pub call-accepted : p .number ≡ 0 → (old new : List ℕ) (r : Answer) → AfterProtocol (p .tables) y old new r → Call x y old new r
+  pub call-accepted : p .refusal .number ≡ 0 → (old new : List ℕ) (r : Answer) → AfterProtocol (p .tables) y old new r → Call x y old new r
   call-accepted z old new r j =
       record {
         protocol-refused = λ n. absurd (n (ap (λ (k : Reading). k .refusal .number) (sym is) ∙ z));

@@ -33,8 +33,8 @@ fn judge_mapping(t: Tables, mapping: &[u8], out: &mut [u8]) -> Answer
 {
     let messages = t.messages;
     let m = mapping::read_mapping(mapping, messages, t.message_count);
-    if m.number != 0 {
-        return answers::refused(m.number, 1, m.line);
+    if m.refusal.number != 0 {
+        return answers::refused(m.refusal, 1);
     }
     let networks = m.networks;
     judge_tables(t, networks, out)
@@ -45,8 +45,8 @@ pub fn judge(protocol: &[u8], mapping: &[u8], out: &mut [u8]) -> Answer
     ensures { λ r. ⌜ Call (now (protocol .entry)) (now (mapping .entry)) (now (out .entry)) (now (out .exit)) r ⌝ }
 {
     let r = protocol::read_protocol(protocol);
-    if r.number != 0 {
-        return answers::refused(r.number, 0, r.line);
+    if r.refusal.number != 0 {
+        return answers::refused(r.refusal, 0);
     }
     let t = r.tables;
     judge_mapping(t, mapping, out)

@@ -9,9 +9,8 @@ pub fn print_judgement(protocol: &[u8], mapping: &[u8], out: &mut [u8]) -> usize
     ensures { λ r. ⌜ JudgePrinted (now (protocol .entry)) (now (mapping .entry)) (now (out .entry)) (now (out .exit)) r ⌝ }
 {
     let a = crate::judge(protocol, mapping, out);
-    if a.number == 0 {
+    if a.refusal.number == 0 {
         return a.length;
     }
-    let line = a.line as u32;
-    answers::refused_text::put_refused(out, a.number, a.paper, line)
+    answers::refused_text::put_refused(out, a.refusal, a.paper)
 }

@@ -56,7 +56,7 @@ plan-determined text old new₁ new₂ r s c d = go (eqb (readProtocol text .ref
         listed-determined (v .listing) old new₁ new₂ r s (v .listed) (subst (λ (l : List ℕ). Listed l old new₂ s) same (w .listed))
     go false e =
         let n = eqb-false (readProtocol text .refusal .number) 0 e in
-        refusal-determined (readProtocol text .refusal .number) 0 (readProtocol text .refusal .line) old new₁ new₂ r s (c .refused n) (d .refused n)
+        refusal-determined (readProtocol text .refusal) 0 old new₁ new₂ r s (c .refused n) (d .refused n)
 
 -- ---- What the planning program prints is determined: the count and the lent bytes.
 

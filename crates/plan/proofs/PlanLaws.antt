@@ -61,14 +61,14 @@ module _ (t : Tables) (v : PlanFound) (is : PlanIs (relationsOfTables t) v) wher
 -- ---- the call
 
 module _ (text : List ℕ) (x : Reading) (is : x ≡ readProtocol text) where
-  pub call-refused : x .number ≢ 0 → (old : List ℕ) (r : Answer) → r ≡ refusedAt (x .number) 0 (x .line) → Call text old old r
+  pub call-refused : x .refusal .number ≢ 0 → (old : List ℕ) (r : Answer) → r ≡ refusedAt (x .refusal) 0 → Call text old old r
   call-refused h old r e =
       record {
-        refused = λ n. record { answer = e ∙ ap (λ (y : Reading). refusedAt (y .number) 0 (y .line)) is; bytes = refl };
+        refused = λ n. record { answer = e ∙ ap (λ (y : Reading). refusedAt (y .refusal) 0) is; bytes = refl };
         planned = λ z. absurd (h (ap (λ (y : Reading). y .refusal .number) is ∙ z));
       }
 
-  pub call-planned : x .number ≡ 0 → (old new : List ℕ) (r : Answer) → PlanWritten (x .tables) old new r → Call text old new r
+  pub call-planned : x .refusal .number ≡ 0 → (old new : List ℕ) (r : Answer) → PlanWritten (x .tables) old new r → Call text old new r
   call-planned z old new r p =
       record {
         refused = λ n. absurd (n (ap (λ (y : Reading). y .refusal .number) (sym is) ∙ z));

@@ -33,8 +33,8 @@ pub fn plan(text: &[u8], out: &mut [u8]) -> Answer
     ensures { λ r. ⌜ Call (now (text .entry)) (now (out .entry)) (now (out .exit)) r ⌝ }
 {
     let r = protocol::read_protocol(text);
-    if r.number != 0 {
-        return answers::refused(r.number, 0, r.line);
+    if r.refusal.number != 0 {
+        return answers::refused(r.refusal, 0);
     }
     let t = r.tables;
     plan_tables(t, out)

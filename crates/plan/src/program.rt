@@ -9,9 +9,8 @@ pub fn print_plan(text: &[u8], out: &mut [u8]) -> usize
     ensures { λ r. ⌜ PlanPrinted (now (text .entry)) (now (out .entry)) (now (out .exit)) r ⌝ }
 {
     let a = crate::plan(text, out);
-    if a.number == 0 {
+    if a.refusal.number == 0 {
         return a.length;
     }
-    let line = a.line as u32;
-    answers::refused_text::put_refused(out, a.number, a.paper, line)
+    answers::refused_text::put_refused(out, a.refusal, a.paper)
 }

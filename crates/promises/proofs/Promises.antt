@@ -58,13 +58,13 @@ module _ (x : List ℕ) (e : readProtocol x .refusal .number ≡ 0) where
 
   -- ---- judgements
 
-  judged-fit : (y : List ℕ) → mapped x y .number ≡ 0 → Fit p (mappingOf (mapped x y .networks)) → JudgedFit x y
+  judged-fit : (y : List ℕ) → mapped x y .refusal .number ≡ 0 → Fit p (mappingOf (mapped x y .networks)) → JudgedFit x y
   judged-fit y a fit old new r c =
       let j = c .protocol-accepted e .judged a in
       ⊎-elim (λ (w : FitListing p (mappingOf (mapped x y .networks)) (j .listing)). subst (λ (l : List ℕ). Listed l old new r) (w .is) (j .listed))
       (λ (w : UnfitListing (t .messages) p (mappingOf (mapped x y .networks)) (j .listing)). absurd (fit (w .unfit))) (j .allowed)
 
-  judged-unfit : (y : List ℕ) → mapped x y .number ≡ 0 → (Fit p (mappingOf (mapped x y .networks)) → ⊥) → JudgedUnfit x y
+  judged-unfit : (y : List ℕ) → mapped x y .refusal .number ≡ 0 → (Fit p (mappingOf (mapped x y .networks)) → ⊥) → JudgedUnfit x y
   judged-unfit y a no-fit old new r c =
       let j = c .protocol-accepted e .judged a in
       ⊎-elim (λ (w : FitListing p (mappingOf (mapped x y .networks)) (j .listing)). absurd (no-fit (w .fit)))
@@ -109,14 +109,14 @@ module _ (x : List ℕ) (e : readProtocol x .refusal .number ≡ 0) where
     kept : Fit p (mappingOf (mapped x text .networks)) × Uses (p .count) (mappingOf (mapped x text .networks)) k × LongestChain p k
     kept = every-printed p (good .relations) (mappingOf (mapped x text .networks)) k printed-text least
 
-    fewer : (y : List ℕ) (j : ℕ) → mapped x y .number ≡ 0 → TextUses x y j → j < k → JudgedUnfit x y
+    fewer : (y : List ℕ) (j : ℕ) → mapped x y .refusal .number ≡ 0 → TextUses x y j → j < k → JudgedUnfit x y
     fewer y j a u h = judged-unfit y a (λ fit. omega (arith, h, least .least (mappingOf (mapped x y .networks)) j fit u))
 
   three-kept : (listing : List ℕ) → Three ms p listing → ThreeKept x listing
   three-kept listing w =
       let ns = w .networks in
       let k = w .count in
-      let a : mapped x (mappingText ms ns) .number ≡ 0 = ap (λ (r : Mapped). r .refusal .number) (back ns k (w .long) (w .printed) (w .least)) in
+      let a : mapped x (mappingText ms ns) .refusal .number ≡ 0 = ap (λ (r : Mapped). r .refusal .number) (back ns k (w .long) (w .printed) (w .least)) in
       let q = kept ns k (w .long) (w .printed) (w .least) in
       record {
         networks = ns;

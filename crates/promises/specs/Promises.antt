@@ -49,18 +49,18 @@ pub record ThreeKept (protocol listing : List ℕ) : Type 0 where
   pub count : ℕ
   pub is : listing ≡ classThree (messagesOf (tablesOf protocol)) networks count
   -- The listed mapping, written as a mapping text, is accepted and judged `fit`.
-  pub accepted : mapped protocol (mappingText (messagesOf (tablesOf protocol)) networks) .number ≡ 0
+  pub accepted : mapped protocol (mappingText (messagesOf (tablesOf protocol)) networks) .refusal .number ≡ 0
   pub fit : JudgedFit protocol (mappingText (messagesOf (tablesOf protocol)) networks)
   pub reached : TextUses protocol (mappingText (messagesOf (tablesOf protocol)) networks) count
   -- Every accepted mapping text with fewer networks is judged `unfit`.
-  pub fewer-unfit : (mapping : List ℕ) (j : ℕ) → mapped protocol mapping .number ≡ 0 → TextUses protocol mapping j → j < count → JudgedUnfit protocol mapping
+  pub fewer-unfit : (mapping : List ℕ) (j : ℕ) → mapped protocol mapping .refusal .number ≡ 0 → TextUses protocol mapping j → j < count → JudgedUnfit protocol mapping
   pub chain : LongestChain (relationsOfTables (tablesOf protocol)) count
 
 -- What a listing of class 2 promises: "With one [a waits cycle], no mapping is fit."
 pub record TwoKept (protocol listing : List ℕ) : Type 0 where
   pub cycle : List MessageNo
   pub is : listing ≡ classTwo (tablesOf protocol .messages) cycle
-  pub every-unfit : (mapping : List ℕ) → mapped protocol mapping .number ≡ 0 → JudgedUnfit protocol mapping
+  pub every-unfit : (mapping : List ℕ) → mapped protocol mapping .refusal .number ≡ 0 → JudgedUnfit protocol mapping
 
 -- Every plan of an accepted protocol text is one of the two, and keeps its promise.
 abbrev pub PlansKept : Type 0

@@ -21,13 +21,13 @@ pub every-relations : EveryRelations
 every-relations n causes stalls old new k p =
     subst (λ (j : ℕ). RelationsUnpacked j (p .answer)) (sym (p .is)) (unpack-relations (p .answer) (call-small n causes stalls old new (p .answer) (p .call)))
 
-pub check-told : (text : List ℕ) (r : Reading) (a : Answer) → r ≡ readProtocol text → a ≡ refusedAt (r .number) 0 (r .line) → a ≡ checked text
-check-told text r a e f = f ∙ ap (λ (x : Reading). refusedAt (x .number) 0 (x .line)) e
+pub check-told : (text : List ℕ) (r : Reading) (a : Answer) → r ≡ readProtocol text → a ≡ refusedAt (r .refusal) 0 → a ≡ checked text
+check-told text r a e f = f ∙ ap (λ (x : Reading). refusedAt (x .refusal) 0) e
 
 pub check-small : (text : List ℕ) → Small (checked text)
 check-small text =
     let low = protocol-low text in
-    small-refused (readProtocol text .refusal .number) 0 (readProtocol text .refusal .line) (checked text) (low .0) (omega arith) (low .1) refl
+    small-refused (readProtocol text .refusal) 0 (checked text) (low .0) (omega arith) (low .1) refl
 
 pub every-check : EveryCheck
 every-check text k e = subst (λ (j : ℕ). Unpacked j (checked text)) (sym e) (unpack (checked text) (check-small text))

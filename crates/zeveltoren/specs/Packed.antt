@@ -20,7 +20,7 @@ pub record PackedRelations (n : ℕ) (causes stalls old new : List ℕ) (k : ℕ
 
 -- The reading of a protocol text, which is paper 0: why and where it is refused; every number is 0 where it is accepted.
 abbrev pub checked : List ℕ → Answer
-checked text = refusedAt (readProtocol text .refusal .number) 0 (readProtocol text .refusal .line)
+checked text = refusedAt (readProtocol text .refusal) 0
 
 abbrev pub PackedCheck : List ℕ → ℕ → Type 0
 PackedCheck text k = k ≡ packedAnswer (checked text)

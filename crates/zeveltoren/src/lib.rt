@@ -16,7 +16,7 @@ pub extern "C" fn vn_check_protocol(text: &[u8]) -> u64
     ensures { λ r. ⌜ PackedCheck (now (text .entry)) r ⌝ }
 {
     let r = protocol::read_protocol(text);
-    let a = answers::refused(r.number, 0, r.line);
+    let a = answers::refused(r.refusal, 0);
     answers::packed(a)
 }
 

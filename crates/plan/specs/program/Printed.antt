@@ -11,6 +11,6 @@ use Rattle.plan.specs.Call.{PlanListing}
 -- The first n of the lent bytes are what is printed; the others are as they were.
 pub record PlanPrinted (text old new : List ℕ) (n : ℕ) : Type 0 where
   pub printed : List ℕ
-  pub refused : readProtocol text .refusal .number ≢ 0 → printed ≡ refusedText (readProtocol text .refusal .number) 0 (readProtocol text .refusal .line)
+  pub refused : readProtocol text .refusal .number ≢ 0 → printed ≡ refusedText (readProtocol text .refusal) 0
   pub planned : readProtocol text .refusal .number ≡ 0 → PlanListing (readProtocol text .tables) printed
   pub wrote : Wrote printed old new n

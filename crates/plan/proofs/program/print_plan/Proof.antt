@@ -1,5 +1,4 @@
--- `plan_program::print_plan` meets its contract.
-use native.Mathlib.Omega.{arith}
+-- `plan::program::print_plan` meets its contract.
 use borrow.Author.Needs.{needs}
 use Rattle.plan.proofs.program.Printing.{print-listing, refusal-line, refusal-room, print-refusal}
 use Rattle.plan.proofs.program.print_plan.Statement.{statement}
@@ -14,17 +13,14 @@ same-length c = search needs
 returns : tie.Need-returns
 returns c = print-listing (c .before .before .before .before .before .before .before .before .args .text .now) (c .before .before .before .before .before .before .before .before .args .out .now) (c .before .before .before .before .plan .last .1 .0) (c .before .before .before .before .plan .result) (c .before .before .before .before .before .before .before .before .pre) (c .before .before .before .before .plan .ensures) (c .if1 .taken)
 
-cast-line : tie.Need-cast-line
-cast-line c = omega (arith, refusal-line (c .before .before .before .before .before .before .before .before .before .args .text .now) (c .before .before .before .before .before .before .before .before .before .args .out .now) (c .before .before .before .before .before .plan .last .1 .0) (c .before .before .before .before .before .plan .result) (c .before .before .before .before .before .before .before .before .before .pre) (c .before .before .before .before .before .plan .ensures) (c .before .if1 .left))
-
 put-refused-requires : tie.Need-put-refused-requires
-put-refused-requires c κs = refusal-room (c .before .before .before .before .before .before .before .before .before .before .args .text .now) (c .before .before .before .before .before .before .before .before .before .before .args .out .now) (c .before .before .before .before .before .before .plan .last .1 .0) (c .before .before .before .before .before .before .plan .result) (c .before .before .before .before .before .before .before .before .before .before .pre) (c .before .before .before .before .before .before .plan .ensures) (c .before .before .if1 .left)
+put-refused-requires c κs = (refusal-room (c .before .before .before .before .before .before .before .before .before .args .text .now) (c .before .before .before .before .before .before .before .before .before .args .out .now) (c .before .before .before .before .before .plan .last .1 .0) (c .before .before .before .before .before .plan .result) (c .before .before .before .before .before .before .before .before .before .pre) (c .before .before .before .before .before .plan .ensures) (c .before .if1 .left), refusal-line (c .before .before .before .before .before .before .before .before .before .args .text .now) (c .before .before .before .before .before .before .before .before .before .args .out .now) (c .before .before .before .before .before .plan .last .1 .0) (c .before .before .before .before .before .plan .result) (c .before .before .before .before .before .before .before .before .before .pre) (c .before .before .before .before .before .plan .ensures) (c .before .if1 .left))
 
 same-length-2 : tie.Need-same-length-2
 same-length-2 c = search needs
 
 returns-2 : tie.Need-returns-2
-returns-2 c = print-refusal (c .before .before .before .before .before .before .before .before .before .before .before .before .before .args .text .now) (c .before .before .before .before .before .before .before .before .before .before .before .before .before .args .out .now) (c .before .before .before .before .before .before .before .before .before .plan .last .1 .0) (c .before .before .before .before .before .before .before .before .before .plan .result) (c .before .before .before .before .before .before .before .before .before .before .before .before .before .pre) (c .before .before .before .before .before .before .before .before .before .plan .ensures) (c .before .before .before .before .before .if1 .left) _ _ (c .before .before .put-refused .ensures)
+returns-2 c = print-refusal (c .before .before .before .before .before .before .before .before .before .before .before .before .args .text .now) (c .before .before .before .before .before .before .before .before .before .before .before .before .args .out .now) (c .before .before .before .before .before .before .before .before .plan .last .1 .0) (c .before .before .before .before .before .before .before .before .plan .result) (c .before .before .before .before .before .before .before .before .before .before .before .before .pre) (c .before .before .before .before .before .before .before .before .plan .ensures) (c .before .before .before .before .if1 .left) _ _ (c .before .before .put-refused .ensures)
 
 pub print-plan-spec : {M : Type 1} → statement M
-print-plan-spec = tie.close (tie.spec plan-requires same-length returns cast-line put-refused-requires same-length-2 returns-2)
+print-plan-spec = tie.close (tie.spec plan-requires same-length returns put-refused-requires same-length-2 returns-2)
