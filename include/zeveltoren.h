@@ -1,9 +1,11 @@
 /*
  * Zeveltoren: how many virtual networks does a coherence protocol need?
  *
- * The calls that a C program may make, on x86-64. The library keeps no state,
- * takes no memory but the stack, and calls nothing but memcpy and memset: a
- * call may be made from any thread at any time.
+ * The calls that a C program may make, on x86-64. They stand in one library:
+ * `rt staticlib zeveltoren` writes target/staticlib/libzeveltoren.a, which is
+ * linked by -lzeveltoren. It keeps no state, takes no memory but the stack, and
+ * calls nothing but memcpy and memset: a call may be made from any thread at
+ * any time.
  */
 #ifndef ZEVELTOREN_H
 #define ZEVELTOREN_H
@@ -15,7 +17,7 @@
 extern "C" {
 #endif
 
-/* ---- The relations call: link with -lrelations ---- */
+/* ---- The relations call ---- */
 
 /* The most messages, and so the most bytes of an answer. */
 #define VN_MOST_MESSAGES 32
@@ -112,7 +114,7 @@ static inline void vn_set_pair(uint8_t *table, unsigned from, unsigned to)
     table[VN_ROW_BYTES * from + to / 8] |= (uint8_t)(1u << to % 8);
 }
 
-/* ---- Plans and judgements of texts: link with -lplan and -ljudge ---- */
+/* ---- Plans and judgements of texts ---- */
 
 /* The most bytes of a text. */
 #define VN_MOST_BYTES 49152
@@ -190,6 +192,9 @@ uint64_t vn_judge_texts(const uint8_t *protocol, size_t protocol_length,
 /* Bits 8 to 15: VN_PAPER_PROTOCOL or VN_PAPER_MAPPING. */
 static inline unsigned vn_paper(uint64_t answer) { return (unsigned)(answer >> 8 & 0xff); }
 
+/* Bits 16 to 31: the line that a refusal tells. */
+static inline unsigned vn_line(uint64_t answer) { return (unsigned)(answer >> 16 & 0xffff); }
+
 /* Bits 32 to 47: the length of the listing, 0 when the call was refused. */
 static inline size_t vn_listing_length(uint64_t answer)
 {
@@ -202,25 +207,22 @@ static inline size_t vn_listing_needed(uint64_t answer)
     return vn_refusal(answer) == VN_ROOM ? (size_t)(answer >> 32 & 0xffff) : 0;
 }
 
-/* ---- Reading a protocol text alone: link with -lprotocol ---- */
+/* ---- Reading a protocol text alone ---- */
 
 /*
  * Whether a protocol text is accepted, and if not why and where. Any bytes
- * are answered.
+ * are answered. The returned number has the layout of the two calls above, and
+ * vn_refusal, vn_paper and vn_line read it:
  *
- *   bits  0 to  7  the refusal number, 1 to 13 of the paper; 0: accepted
- *   bits 16 to 31  the line that the refusal tells, counted from 1; 0 where
- *                  the whole text is meant
- *   other bits     0
+ *   bits  0 to  7  the refusal number, 1 to 13; 0 when the text is accepted
+ *   bits  8 to 15  the paper, VN_PAPER_PROTOCOL, which is 0
+ *   bits 16 to 31  the line that it tells, counted from 1; 0: the whole text
+ *   bits 32 to 63  0: there is no listing
  *
- * What the caller owes: the pointer is good for as many bytes as the length
- * says.
+ * What the caller owes is what vn_relations asks: the pointer is good for as
+ * many bytes as the length says, and is not NULL.
  */
 uint64_t vn_check_protocol(const uint8_t *text, size_t text_length);
-
-/* Bits 16 to 31: the line that a refusal tells; of vn_plan_text and
- * vn_judge_texts too. */
-static inline unsigned vn_line(uint64_t answer) { return (unsigned)(answer >> 16 & 0xffff); }
 
 #ifdef __cplusplus
 }
