@@ -6,6 +6,23 @@
  * linked by -lzeveltoren. It keeps no state, takes no memory but the stack, and
  * calls nothing but memcpy and memset: a call may be made from any thread at
  * any time.
+ *
+ * These four calls are the entry points. They ask nothing of the numbers and
+ * bytes that come in (their contracts have no `requires`; those of functions
+ * inside the library do, and every call of one is proved to keep them): any
+ * count, any length and any bytes are answered or refused. What a caller in C
+ * owes is told with each call: good pointers, as slices have them.
+ *
+ * What fit does not say. A mapping is fit when no closed walk of waits and
+ * queues steps has a waits step, and unfit when one has; that is rule 6 of the
+ * paper, and no more. Neither tells what a chip will do:
+ *
+ *   - Class 2 means that the waits have a cycle, class 3 that they have none.
+ *     Protocol deadlock (class 1 of the source paper on virtual networks) needs
+ *     a model checker and is not told apart: either cause may be behind class 2.
+ *   - Routing deadlock, nacks and access permissions are not looked at.
+ *   - The protocol is not run: whether it ever comes to a wait that its tables
+ *     allow is not asked.
  */
 #ifndef ZEVELTOREN_H
 #define ZEVELTOREN_H
@@ -49,7 +66,7 @@ extern "C" {
  * i, for each i below n. Networks are numbered from 0. The length is n, the
  * count of networks at least 1. No fit mapping has fewer networks.
  *
- * Class 2, the waits have a cycle, so that no mapping helps: out gets the
+ * Class 2, the waits have a cycle, so that no mapping is fit: out gets the
  * message numbers of the cycle that is shown, each of which waits for the
  * next, and the last for the first. It is a shortest one, and among those
  * the first in dictionary order. The length is that of the cycle, the count
@@ -73,8 +90,7 @@ extern "C" {
  *
  * What the caller owes: each pointer is good for as many bytes as the length
  * after it says, and out shares no byte with the tables. (causes and stalls
- * may be the same.) Nothing needs to be aligned. Nothing else is asked: any
- * n, any lengths and any bytes are answered or refused.
+ * may be the same.) Nothing needs to be aligned. Nothing else is asked.
  * A pointer with length 0 is not followed and need not point to anything,
  * but it should not be NULL: the parameters are slices, which have a place
  * even when they are empty. The address of any object will do.
