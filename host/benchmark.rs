@@ -1,7 +1,7 @@
 //! How fast the relations call is, beside the second program, and how much
 //! stack it takes.
 //!
-//!   LIBS=relations host/build run benchmark
+//!   host/build run benchmark
 //!
 //! Library, fast variant and plain variant get the same inputs in the same
 //! run, in turn, and all are optimised. Each figure is the median of several

@@ -2,7 +2,7 @@
 //! the second program, in one process. Every number and every byte of the
 //! output is compared, also those that have to stay.
 //!
-//!   LIBS="plan judge" host/build run pairs COUNT SEED
+//!   host/build run pairs COUNT SEED
 //!
 //! A pair that is answered in two ways is written to target/host/pair.SEED.*.
 //! host/run_pairs runs two of these side by side.

@@ -1,7 +1,7 @@
 //! How fast vn_plan_text and vn_judge_texts are, beside the second program's
 //! plan and judge, on texts at the limits, and how much stack they take.
 //!
-//!   LIBS="plan judge" host/build run plan_benchmark
+//!   host/build run plan_benchmark
 //!
 //! Both get the same texts in the same run, in turn, and both are optimised
 //! code for x86-64. Figures are medians of several rounds, of the thread's own

@@ -113,7 +113,7 @@ static void check_listings(void)
     const char *all_0 = "vn-mapping\t1\nmap\tAsk\t0\nmap\tPass\t0\nmap\tGive\t0\nmap\tDone\t0\n";
     const char *two = "vn-mapping\t1\nmap\tAsk\t5\nmap\tPass\t9\nmap\tGive\t9\nmap\tDone\t9\n";
     accepted("Bell", bell, NULL, bell_plan);
-    accepted("Bell that hangs", bell_and("cell\tcache\tID\tPass\tstall"), NULL,
+    accepted("Bell of class 2", bell_and("cell\tcache\tID\tPass\tstall"), NULL,
              "vn-plan\t1\nclass\t2\ncycle\tPass\n");
     accepted("Bell in one network", bell, all_0,
              "vn-judge\t1\nunfit\nstep\tAsk\twaits\tPass\nstep\tPass\tqueues\tAsk\n");

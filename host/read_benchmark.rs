@@ -1,7 +1,7 @@
 //! How fast the protocol reader is, beside the second program's plain reader,
 //! on a text at all limits, and how much stack it takes.
 //!
-//!   LIBS=protocol host/build run read_benchmark
+//!   host/build run read_benchmark
 //!
 //! Both read the same text in the same run, in turn, and both are optimised.
 //! Figures are medians of several rounds, of the thread's own time. Under an

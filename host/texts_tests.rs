@@ -1,5 +1,5 @@
 //! The protocol reader of the library against the second program's, through
-//! the exported call: refusal numbers and lines.
+//! the exported call: refusal numbers and lines, each in its place.
 
 #![allow(dead_code)]
 
@@ -18,13 +18,16 @@ fn wanted(text: &[u8]) -> (u8, usize) {
     }
 }
 
+/// All 64 bits, which are those of a plan of the same text that is refused.
 fn compare(text: &[u8]) {
-    assert_eq!(
-        zeveltoren_texts::check_protocol(text),
-        wanted(text),
-        "{}",
-        String::from_utf8_lossy(text)
-    );
+    let shown = String::from_utf8_lossy(text);
+    let (number, line) = wanted(text);
+    let packed = zeveltoren_texts::check_protocol_packed(text);
+    assert_eq!(zeveltoren_texts::check_protocol(text), (number, line), "{}", shown);
+    assert_eq!(packed, u64::from(number) | (line as u64) << 16, "{}", shown);
+    if number != 0 {
+        assert_eq!(packed, zeveltoren_texts::plan_packed(text, &mut []), "{}", shown);
+    }
 }
 
 fn seed() -> u64 {

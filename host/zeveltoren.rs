@@ -1,10 +1,12 @@
-//! A safe wrapper around the relations call.
+//! A safe wrapper around the relations call. It names the library: a program
+//! with it is built by `rustc -L target/staticlib`.
 //!
 //! Slices are all that the library asks for, so nothing is left to the
 //! caller: `relations` takes any count, any tables and any output.
 
 #![allow(dead_code)]
 
+#[link(name = "zeveltoren", kind = "static")]
 extern "C" {
     // The library takes `causes: &[u8], stalls: &[u8], out: &mut [u8]`. Each
     // goes as a pointer and then a length.

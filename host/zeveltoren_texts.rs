@@ -1,11 +1,12 @@
-//! A safe wrapper around the calls on texts that the library exports.
+//! A safe wrapper around the calls on texts. It names the library: a program
+//! with it is built by `rustc -L target/staticlib`.
 //!
-//! `plan` wants the library `plan`, `judge` the library `judge`, and
-//! `check_protocol` the library `protocol`. Slices are all that the calls ask for: any texts and any output
-//! are answered or refused.
+//! Slices are all that the calls ask for: any texts and any output are
+//! answered or refused.
 
 #![allow(dead_code)]
 
+#[link(name = "zeveltoren", kind = "static")]
 extern "C" {
     // The library takes slices. Each goes as a pointer and then a length.
     fn vn_check_protocol(text: *const u8, text_length: usize) -> u64;
@@ -96,7 +97,8 @@ pub fn check_protocol(text: &[u8]) -> (u8, usize) {
     ((packed & 0xff) as u8, (packed >> 16 & 0xffff) as usize)
 }
 
-/// The same, as it comes: bits 0 to 7 the number, 16 to 31 the line.
+/// The same, as it comes, in the places that `taken_apart` reads: the paper
+/// and the length are 0.
 pub fn check_protocol_packed(text: &[u8]) -> u64 {
     // A slice's pointer is good for its length. That is all that is asked.
     unsafe { vn_check_protocol(text.as_ptr(), text.len()) }

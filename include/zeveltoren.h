@@ -1,9 +1,28 @@
 /*
  * Zeveltoren: how many virtual networks does a coherence protocol need?
  *
- * The calls that a C program may make, on x86-64. The library keeps no state,
- * takes no memory but the stack, and calls nothing but memcpy and memset: a
- * call may be made from any thread at any time.
+ * The calls that a C program may make, on x86-64. They stand in one library:
+ * `rt staticlib zeveltoren` writes target/staticlib/libzeveltoren.a, which is
+ * linked by -lzeveltoren. It keeps no state, takes no memory but the stack, and
+ * calls nothing but memcpy and memset: a call may be made from any thread at
+ * any time.
+ *
+ * These four calls are the entry points. They ask nothing of the numbers and
+ * bytes that come in (their contracts have no `requires`; those of functions
+ * inside the library do, and every call of one is proved to keep them): any
+ * count, any length and any bytes are answered or refused. What a caller in C
+ * owes is told with each call: good pointers, as slices have them.
+ *
+ * What fit does not say. A mapping is fit when no closed walk of waits and
+ * queues steps has a waits step, and unfit when one has; that is rule 6 of the
+ * paper, and no more. Neither tells what a chip will do:
+ *
+ *   - Class 2 means that the waits have a cycle, class 3 that they have none.
+ *     Protocol deadlock (class 1 of the source paper on virtual networks) needs
+ *     a model checker and is not told apart: either cause may be behind class 2.
+ *   - Routing deadlock, nacks and access permissions are not looked at.
+ *   - The protocol is not run: whether it ever comes to a wait that its tables
+ *     allow is not asked.
  */
 #ifndef ZEVELTOREN_H
 #define ZEVELTOREN_H
@@ -15,7 +34,7 @@
 extern "C" {
 #endif
 
-/* ---- The relations call: link with -lrelations ---- */
+/* ---- The relations call ---- */
 
 /* The most messages, and so the most bytes of an answer. */
 #define VN_MOST_MESSAGES 32
@@ -47,7 +66,7 @@ extern "C" {
  * i, for each i below n. Networks are numbered from 0. The length is n, the
  * count of networks at least 1. No fit mapping has fewer networks.
  *
- * Class 2, the waits have a cycle, so that no mapping helps: out gets the
+ * Class 2, the waits have a cycle, so that no mapping is fit: out gets the
  * message numbers of the cycle that is shown, each of which waits for the
  * next, and the last for the first. It is a shortest one, and among those
  * the first in dictionary order. The length is that of the cycle, the count
@@ -71,8 +90,7 @@ extern "C" {
  *
  * What the caller owes: each pointer is good for as many bytes as the length
  * after it says, and out shares no byte with the tables. (causes and stalls
- * may be the same.) Nothing needs to be aligned. Nothing else is asked: any
- * n, any lengths and any bytes are answered or refused.
+ * may be the same.) Nothing needs to be aligned. Nothing else is asked.
  * A pointer with length 0 is not followed and need not point to anything,
  * but it should not be NULL: the parameters are slices, which have a place
  * even when they are empty. The address of any object will do.
@@ -112,7 +130,7 @@ static inline void vn_set_pair(uint8_t *table, unsigned from, unsigned to)
     table[VN_ROW_BYTES * from + to / 8] |= (uint8_t)(1u << to % 8);
 }
 
-/* ---- Plans and judgements of texts: link with -lplan and -ljudge ---- */
+/* ---- Plans and judgements of texts ---- */
 
 /* The most bytes of a text. */
 #define VN_MOST_BYTES 49152
@@ -190,6 +208,9 @@ uint64_t vn_judge_texts(const uint8_t *protocol, size_t protocol_length,
 /* Bits 8 to 15: VN_PAPER_PROTOCOL or VN_PAPER_MAPPING. */
 static inline unsigned vn_paper(uint64_t answer) { return (unsigned)(answer >> 8 & 0xff); }
 
+/* Bits 16 to 31: the line that a refusal tells. */
+static inline unsigned vn_line(uint64_t answer) { return (unsigned)(answer >> 16 & 0xffff); }
+
 /* Bits 32 to 47: the length of the listing, 0 when the call was refused. */
 static inline size_t vn_listing_length(uint64_t answer)
 {
@@ -202,25 +223,22 @@ static inline size_t vn_listing_needed(uint64_t answer)
     return vn_refusal(answer) == VN_ROOM ? (size_t)(answer >> 32 & 0xffff) : 0;
 }
 
-/* ---- Reading a protocol text alone: link with -lprotocol ---- */
+/* ---- Reading a protocol text alone ---- */
 
 /*
  * Whether a protocol text is accepted, and if not why and where. Any bytes
- * are answered.
+ * are answered. The returned number has the layout of the two calls above, and
+ * vn_refusal, vn_paper and vn_line read it:
  *
- *   bits  0 to  7  the refusal number, 1 to 13 of the paper; 0: accepted
- *   bits 16 to 31  the line that the refusal tells, counted from 1; 0 where
- *                  the whole text is meant
- *   other bits     0
+ *   bits  0 to  7  the refusal number, 1 to 13; 0 when the text is accepted
+ *   bits  8 to 15  the paper, VN_PAPER_PROTOCOL, which is 0
+ *   bits 16 to 31  the line that it tells, counted from 1; 0: the whole text
+ *   bits 32 to 63  0: there is no listing
  *
- * What the caller owes: the pointer is good for as many bytes as the length
- * says.
+ * What the caller owes is what vn_relations asks: the pointer is good for as
+ * many bytes as the length says, and is not NULL.
  */
 uint64_t vn_check_protocol(const uint8_t *text, size_t text_length);
-
-/* Bits 16 to 31: the line that a refusal tells; of vn_plan_text and
- * vn_judge_texts too. */
-static inline unsigned vn_line(uint64_t answer) { return (unsigned)(answer >> 16 & 0xffff); }
 
 #ifdef __cplusplus
 }
