@@ -21,7 +21,7 @@
 ghost use Prim.Native.Nat.{_<_, _≤_};
 ghost use lib.ListN.{length};
 ghost use Rattle.tables.specs.Cells.{TablesOk};
-ghost use Rattle.cases.specs.Fit.{Fit};
+ghost use Rattle.cases.specs.Printable.{Printable};
 use mapping::Mapped;
 use protocol::whole::Reading;
 use rules::Network;
@@ -158,13 +158,13 @@ fn print_tables(t: Tables)
 
 // What the protocol reader answers.
 fn print_reading(r: Reading)
-    requires { ⌜ Fit r ⌝ }
+    requires { ⌜ Printable r ⌝ }
 {
     let t = r.tables;
-    if r.number == 0 {
+    if r.refusal.number == 0 {
         print_tables(t);
     } else {
-        print_refusal(r.number, 0, r.line);
+        print_refusal(r.refusal.number, 0, r.refusal.line);
     }
 }
 
@@ -173,12 +173,12 @@ fn print_mapped(m: Mapped, count: usize)
     requires { ⌜ count ≤ 32 ⌝ }
 {
     let networks = m.networks;
-    if m.number == 0 {
+    if m.refusal.number == 0 {
         print_word(b" networks");
         print_networks(networks, count);
     } else {
         print_word(b" ");
-        print_refusal(m.number, 1, m.line);
+        print_refusal(m.refusal.number, 1, m.refusal.line);
     }
 }
 
@@ -186,7 +186,7 @@ fn print_mapped(m: Mapped, count: usize)
 
 // As many bytes of the input as there is room, as a protocol text.
 fn protocol_in(room: &mut [u8]) -> Reading
-    ensures { λ r. ⌜ Fit r ⌝ }
+    ensures { λ r. ⌜ Printable r ⌝ }
 {
     let got = io::read_full(0, room);
     protocol::read_protocol(&room[..got])
@@ -195,7 +195,7 @@ fn protocol_in(room: &mut [u8]) -> Reading
 // The next n bytes as a protocol text.
 fn protocol_of(n: usize) -> Reading
     requires { ⌜ n ≤ 65536 ⌝ }
-    ensures { λ r. ⌜ Fit r ⌝ }
+    ensures { λ r. ⌜ Printable r ⌝ }
 {
     let mut text = io::large_buffer();
     protocol_in(&mut text[..n])
@@ -258,7 +258,7 @@ fn judge_item() -> bool {
     }
     let r = protocol_of(n);
     print_reading(r);
-    if r.number == 0 {
+    if r.refusal.number == 0 {
         judged(m, r.tables);
     } else {
         pass_over(m);

@@ -19,7 +19,8 @@ use Rattle.protocol.specs.Reading.{readProtocol}
 use Rattle.reading_laws.specs.protocols.Promises.{AcceptedReading}
 use Rattle.reading_laws.proofs.protocols.Accepted.{accepted-kept}
 use Rattle.mapping.specs.declared.Mapped.{Mapped}
-use Rattle.mapping.specs.Reading.{accepted, networkNo}
+use Rattle.mapping.specs.networks.Networks.{networkNo}
+use Rattle.mapping.specs.Reading.{mapsAccepted}
 use Rattle.mapping.specs.Text.{mappingText, Writable}
 use Rattle.reading_laws.proofs.mappings.RoundTrip.{reads-back}
 use Rattle.reading_laws.proofs.mappings.Why.{pad-at}
@@ -95,7 +96,7 @@ module _ (x : List ℕ) (e : readProtocol x .refusal .number ≡ 0) where
     abbrev text : List ℕ
     text = mappingText ms ns
 
-    back : mapped x text ≡ accepted ns
+    back : mapped x text ≡ mapsAccepted ns
     back = reads-back ms ns writable
 
     same : (m : MessageNo) → m < t .«message_count» → getD ns m 0 ≡ mappingOf (mapped x text .networks) m

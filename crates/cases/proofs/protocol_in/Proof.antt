@@ -1,7 +1,7 @@
 -- `cases::protocol_in` is safe and ends, and its tables are those of a reading. Assumes nothing.
 use mathlib.Core.Path.{sym, subst}
 use Rattle.reading_laws.proofs.protocols.Accepted.{accepted-kept}
-use Rattle.cases.specs.Fit.{Fit}
+use Rattle.cases.specs.Printable.{Printable}
 use borrow.Author.Needs.{needs}
 use Rattle.cases.proofs.protocol_in.Statement.{statement}
 use Rattle.cases.proofs.protocol_in.Tie as tie
@@ -22,7 +22,7 @@ same-length : tie.Need-same-length
 same-length c = search needs
 
 returns : tie.Need-returns
-returns c = subst Fit (sym (c .read-protocol .ensures)) (λ z. accepted-kept _ z .kept .ok)
+returns c = subst Printable (sym (c .read-protocol .ensures)) (λ z. accepted-kept _ z .kept .ok)
 
 pub protocol-in-spec : {M : Type 1} → statement M
 protocol-in-spec =

@@ -3,5 +3,5 @@ use mathlib.Core.Path.{_≡_}
 use Rattle.tables.specs.Cells.{TablesOk}
 use Rattle.protocol.specs.declared.whole.Reading.{Reading}
 
-abbrev pub Fit : Reading → Type 0
-Fit r = r .number ≡ 0 → TablesOk (r .tables)
+abbrev pub Printable : Reading → Type 0
+Printable r = r .refusal .number ≡ 0 → TablesOk (r .tables)
