@@ -15,11 +15,11 @@ use Rattle.text.specs.Name.{nameText}
 use Rattle.text.specs.Words.{unfitWord}
 use Rattle.text.specs.Written.{Wrote, Pasted}
 use Rattle.text.proofs.Written.{pasted-part, pasted-length, next-room, pasted-next}
-use Rattle.tables.specs.declared.Kind.the-variants.{Req}
 use Rattle.tables.specs.declared.MessageRow.{MessageRow}
 use Rattle.tables.specs.Tables.{noMessage}
 use Rattle.text.proofs.Parts.{getD-within}
 use Rattle.plan_listing.specs.PlanText.{nameAt}
+use Rattle.plan_listing.proofs.Lines.{noRow}
 use Rattle.judge_listing.specs.fit.FitText.{verdictHead}
 use Rattle.judge_listing.specs.declared.step_lines.NamedStep.{NamedStep}
 use Rattle.judge_listing.specs.step_lines.StepLine.{stepLine, wordText, wordOf, namedLine}
@@ -29,11 +29,11 @@ use Rattle.judge_listing.proofs.Places.{steps-length, steps-at, bit-tol
 
 -- the name in the row of a message
 pub name-at : (rows : List MessageRow) (k m : ℕ) → k ≡ m → m < length rows
-    → nameText (getD rows k (record { name = record { bytes = []; length = 0 }; kind = Req }) .name) ≡ nameAt rows m
+    → nameText (getD rows k noRow .name) ≡ nameAt rows m
 unfolding nameAt
 name-at rows k m e h =
-    ap (λ (j : ℕ). nameText (getD rows j (record { name = record { bytes = []; length = 0 }; kind = Req }) .name)) e
-    ∙ ap (λ (r : MessageRow). nameText (r .name)) (getD-within rows m (record { name = record { bytes = []; length = 0 }; kind = Req }) noMessage h)
+    ap (λ (j : ℕ). nameText (getD rows j noRow .name)) e
+    ∙ ap (λ (r : MessageRow). nameText (r .name)) (getD-within rows m noRow noMessage h)
 
 -- a step that holds the names of its messages, and their bit, has the line of the step at its place
 pub step-line : (rows : List MessageRow) (waits l : List ℕ) (i from to f t : ℕ) (s : NamedStep) → f ≡ from → t ≡ to

@@ -1,14 +1,14 @@
 -- The contracts of this crate leave one answer, and one content of the lent bytes.
 use Prim.Native.Nat.{ℕ}
 use mathlib.Core.List.{List}
-use Rattle.determined.specs.Determined.{DeterminesLent}
-use Rattle.plan_listing.specs.PlanText.{classThree, firstNetworks, classTwo, firstMessages}
 use lib.ListN.{take}
+use Rattle.determined.specs.Determined.{DeterminesLent}
+use Rattle.rules.specs.declared.Message.{Message}
 use Rattle.rules.specs.declared.Network.{Network}
 use Rattle.tables.specs.declared.MessageRow.{MessageRow}
 use Rattle.answers.specs.Answers.{Listed}
 use Rattle.answers.proofs.Determined.{listed-determined}
-use Rattle.rules.specs.declared.Message.{Message}
+use Rattle.plan_listing.specs.PlanText.{classThree, classTwo, firstMessages, firstNetworks}
 
 pub map-listing-determined : (messages : List MessageRow) (n : ℕ) (networks : List Network) (count : ℕ) (old : List ℕ)
     → DeterminesLent (Listed (classThree (take n messages) (firstNetworks n networks) count) old)

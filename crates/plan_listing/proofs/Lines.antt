@@ -1,5 +1,5 @@
 -- Laws of the lines of a listing: how each grows, and how long it is.
-use mathlib.Core.Path.{_≡_, refl, sym, ap, _∙_, subst}
+use mathlib.Core.Path.{_≡_, sym, ap, _∙_, subst}
 use mathlib.Core.List.{List, [], _∷_, _++_, map, append-assoc, append-nil}
 use Prim.Native.Nat.{ℕ, zero, suc, _+_, _*_, _/_, _≤_, _<_}
 use native.Mathlib.Omega.{arith}
@@ -12,6 +12,7 @@ use Rattle.rules.specs.declared.Network.{Network}
 use Rattle.text.specs.Name.{nameText}
 use Rattle.text.specs.Words.{tab}
 use Rattle.text.specs.Written.{decimal}
+use Rattle.text.proofs.Parts.{getD-within}
 use Rattle.text.proofs.Written.{decimal-small, length-step}
 use Rattle.tables.specs.declared.MessageRow.{MessageRow}
 use Rattle.tables.specs.declared.Kind.the-variants.{Req}
@@ -96,12 +97,6 @@ message-below e cycle n i h z f =
     ap (getD (map messageNumber (take n cycle)) i) (sym z) ∙ List·getD-map messageNumber (take n cycle) i e ∙ ap messageNumber (getD-take n cycle i e h) in
     omega (arith, f i h, same)
 
--- a row that is there is the same, whatever is read past the end
-same-row : (d e : MessageRow) (rows : List MessageRow) (i : ℕ) → i < length rows → getD rows i d ≡ getD rows i e
-same-row d e [] i h = absurd (omega arith)
-same-row d e (x ∷ rows) zero h = refl
-same-row d e (x ∷ rows) (suc i) h = same-row d e rows i (omega arith)
-
 module _ (e : Message) (rows : List MessageRow) where
   names-suc : (cycle : List Message) (i : ℕ) → i < length cycle
       → namesTo rows cycle (suc i) ≡ namesTo rows cycle i ++ (tab ++ nameAt rows (getD cycle i e .0))
@@ -127,7 +122,7 @@ module _ (e : Message) (rows : List MessageRow) where
     names-more =
         next-name cycle i h
         ∙ ap (λ (r : MessageRow). namesTo rows cycle i ++ (tab ++ nameText (r .name)))
-        (ap (λ (m : ℕ). getD rows m noMessage) (sym q) ∙ same-row noMessage d rows j k)
+        (ap (λ (m : ℕ). getD rows m noMessage) (sym q) ∙ getD-within rows j noMessage d k)
 
     pub names-longer : (m n : ℕ) → TextLength (namesTo rows cycle i) (25 * i) m → TextLength (tab ++ nameText (getD rows j d .name)) 25 n
         → TextLength (namesTo rows cycle (i + 1)) (25 * (i + 1)) (m + n)

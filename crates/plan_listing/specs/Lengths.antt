@@ -3,6 +3,7 @@ use Prim.Native.Nat.{ℕ, _≤_, _<_}
 use mathlib.Core.Path.{_≡_}
 use mathlib.Core.List.{List}
 use lib.ListN.{length, getD}
+use Rattle.rules.specs.Rules.{MessageNo, NetworkNo}
 use Rattle.text.specs.Name.{nameText}
 use Rattle.tables.specs.declared.MessageRow.{MessageRow}
 use Rattle.tables.specs.Tables.{noMessage}
@@ -13,16 +14,18 @@ pub record TextLength (text : List ℕ) (most n : ℕ) : Type 0 where
   pub exact : n ≡ length text
   pub few : n ≤ most
 
--- ---- the longest listings: the programs lend room for them
+-- ---- the longest listings: "Every program lends room for the longest answer within the limits."
 
 -- Each name has at most 24 bytes.
 abbrev pub ShortNames : List MessageRow → Type 0
 ShortNames rows = (i : ℕ) → length (nameText (getD rows i noMessage .name)) ≤ 24
 
+-- The lines before the messages' take at most 30 bytes, each of at most 32 messages at most 32.
 abbrev pub LongestMaps : Type 0
 LongestMaps =
-    (messages : List MessageRow) (networks : List ℕ) (count : ℕ) → ShortNames messages → length messages ≤ 32
+    (messages : List MessageRow) (networks : List NetworkNo) (count : ℕ) → ShortNames messages → length messages ≤ 32
     → ((i : ℕ) → i < length networks → getD networks i 0 < 32) → count ≤ 32 → length (classThree messages networks count) ≤ 1054
 
+-- The lines take 24 bytes without the names, each of at most 32 names at most 25 with its tab.
 abbrev pub LongestCycle : Type 0
-LongestCycle = (rows : List MessageRow) (cycle : List ℕ) → ShortNames rows → length cycle ≤ 32 → length (classTwo rows cycle) ≤ 824
+LongestCycle = (rows : List MessageRow) (cycle : List MessageNo) → ShortNames rows → length cycle ≤ 32 → length (classTwo rows cycle) ≤ 824

@@ -6,6 +6,7 @@ use mathlib.Core.List.{List, [], _∷_, _++_, map}
 use lib.ListN.{getD, take}
 use Rattle.rules.specs.declared.Message.{Message}
 use Rattle.rules.specs.declared.Network.{Network}
+use Rattle.rules.specs.Rules.{MessageNo, NetworkNo}
 use Rattle.text.specs.Name.{nameText}
 use Rattle.text.specs.Words.{planHeader, classWord, networksWord, cycleWord, tab, newline}
 use Rattle.text.specs.Written.{decimal}
@@ -15,50 +16,51 @@ use Rattle.tables.specs.Cells.{number}
 use Rattle.mapping.specs.Text.{mapFields, mapTexts}
 
 -- The name of message m.
-unfoldable pub nameAt : List MessageRow → ℕ → List ℕ
+unfoldable pub nameAt : List MessageRow → MessageNo → List ℕ
 nameAt rows m = nameText (getD rows m noMessage .name)
 
--- A word and a number.
+-- The line of a word and a number.
 unfoldable pub numberLine : List ℕ → ℕ → List ℕ
 numberLine word n = ((word ++ tab) ++ decimal n) ++ newline
 
--- The header and the class.
+-- The header and the class, a line each.
 unfoldable pub classHead : ℕ → List ℕ
 classHead class = (planHeader ++ newline) ++ numberLine classWord class
 
 -- The line of a message and its network.
-abbrev pub mapText : List ℕ → ℕ → List ℕ
+abbrev pub mapText : List ℕ → NetworkNo → List ℕ
 mapText name n = mapFields name n ++ newline
 
 -- Class 3: the least count, then a line for each message, as a mapping text has it.
-unfoldable pub classThree : List MessageRow → List ℕ → ℕ → List ℕ
+unfoldable pub classThree : List MessageRow → List NetworkNo → ℕ → List ℕ
 classThree messages networks count = (classHead 3 ++ numberLine networksWord count) ++ mapTexts messages networks
 
 -- Each of these messages' names, behind a tab.
-unfoldable pub namesText : List MessageRow → List ℕ → List ℕ
+unfoldable pub namesText : List MessageRow → List MessageNo → List ℕ
 namesText rows [] = []
 namesText rows (m ∷ l) = (tab ++ nameAt rows m) ++ namesText rows l
 
 -- `cycle` and the names in order.
-unfoldable pub cycleLine : List MessageRow → List ℕ → List ℕ
+unfoldable pub cycleLine : List MessageRow → List MessageNo → List ℕ
 cycleLine rows cycle = (cycleWord ++ namesText rows cycle) ++ newline
 
 -- Class 2: the line of the shown cycle.
-unfoldable pub classTwo : List MessageRow → List ℕ → List ℕ
+unfoldable pub classTwo : List MessageRow → List MessageNo → List ℕ
 classTwo rows cycle = classHead 2 ++ cycleLine rows cycle
 
 -- ---- the numbers that the code keeps in types of their own
 
-abbrev pub networkNumber : Network → ℕ
+-- A network's number.
+abbrev pub networkNumber : Network → NetworkNo
 networkNumber n = n .0
 
 -- The first n of these messages, or networks.
-unfoldable pub firstMessages : ℕ → List Message → List ℕ
+unfoldable pub firstMessages : ℕ → List Message → List MessageNo
 firstMessages n l = map number (take n l)
 
-unfoldable pub firstNetworks : ℕ → List Network → List ℕ
+unfoldable pub firstNetworks : ℕ → List Network → List NetworkNo
 firstNetworks n l = map networkNumber (take n l)
 
 -- Each of the first n of these messages has a row.
-abbrev pub MessagesBelow : ℕ → List ℕ → Type 0
+abbrev pub MessagesBelow : ℕ → List MessageNo → Type 0
 MessagesBelow n l = (i : ℕ) → i < n → getD l i 0 < 32

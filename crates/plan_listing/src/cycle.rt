@@ -13,11 +13,14 @@ use rules::Message;
 use tables::MessageRow;
 use text::Name;
 
-// How many bytes a name has, with the tab before it.
+// How many bytes the listing has beside the names: the head, `cycle` and the end of the line.
+const FIXED: usize = crate::HEAD + text::words::CYCLE.len() + text::words::NEWLINE.len();
+
+// How many bytes a name has, with the tab before it: at most 25.
 fn tabbed_length(name: Name) -> usize
     ensures { λ r. ⌜ TextLength (tab ++ nameText name) 25 r ⌝ }
 {
-    1 + text::names::name_length(name)
+    text::words::TAB.len() + text::names::name_length(name)
 }
 
 // How many bytes the names of the messages have, each behind a tab.
@@ -85,7 +88,7 @@ pub fn cycle_listing(
     requires { ⌜ (n ≤ 32) × MessagesBelow n (firstMessages n cycle) ⌝ }
     ensures { λ r. ⌜ Listed (classTwo messages (firstMessages n cycle)) (now (out .entry)) (now (out .exit)) r ⌝ }
 {
-    let needed = 24 + names_length(messages, cycle, n);
+    let needed = FIXED + names_length(messages, cycle, n);
     if out.len() < needed {
         return answers::no_room(needed);
     }

@@ -12,6 +12,19 @@ use rules::Network;
 use tables::MessageRow;
 use text::Name;
 
+// How many bytes stand before the messages' lines, but for the digits of the least count: the head, and `networks`, a tab and the
+// end of the line.
+const BEFORE_MAPS: usize = crate::HEAD
+    + text::words::NETWORKS.len()
+    + text::words::TAB.len()
+    + text::words::NEWLINE.len();
+
+// How many bytes a message's line has beside its name and its network: `map`, two tabs and the end of the line.
+const FIXED: usize = text::words::MAP.len()
+    + text::words::TAB.len()
+    + text::words::TAB.len()
+    + text::words::NEWLINE.len();
+
 // How many digits a number has.
 fn digits(n: u8) -> usize
     ensures { λ r. ⌜ TextLength (decimal n) 3 r ⌝ }
@@ -25,12 +38,12 @@ fn digits(n: u8) -> usize
     3
 }
 
-// How many bytes the line of a message and its network has.
+// How many bytes the line of a message and its network has: at most 33, with a name of 24 bytes and three digits.
 fn map_length(name: Name, network: Network) -> usize
     ensures { λ r. ⌜ TextLength (mapText (nameText name) (network .0)) 33 r ⌝ }
 {
     let n = network.0;
-    6 + text::names::name_length(name) + digits(n)
+    FIXED + text::names::name_length(name) + digits(n)
 }
 
 // How many bytes the lines of all messages have.
@@ -50,7 +63,7 @@ fn maps_length(messages: [MessageRow; 32], n: usize, networks: [Network; 32]) ->
     total
 }
 
-// A message and its network.
+// The line of a message and its network.
 fn put_map(out: &mut [u8], name: Name, network: Network) -> usize
     requires { ⌜ length (mapText (nameText name) (network .0)) ≤ length (now out) ⌝ }
     ensures { λ r. ⌜ Wrote (mapText (nameText name) (network .0)) (now (out .entry)) (now (out .exit)) r ⌝ }
@@ -92,7 +105,7 @@ pub fn map_listing(
     requires { ⌜ (n ≤ 32) × (count ≤ 32) ⌝ }
     ensures { λ r. ⌜ Listed (classThree (take n messages) (firstNetworks n networks) count) (now (out .entry)) (now (out .exit)) r ⌝ }
 {
-    let needed = 28 + digits(count as u8) + maps_length(messages, n, networks);
+    let needed = BEFORE_MAPS + digits(count as u8) + maps_length(messages, n, networks);
     if out.len() < needed {
         return answers::no_room(needed);
     }

@@ -4,7 +4,7 @@ use mathlib.Core.Path.{_≡_}
 use mathlib.Core.Logic.{_↔_}
 use mathlib.Core.List.{List}
 use lib.ListN.{getD}
-use Rattle.rules.specs.Rules.{Mapping, Step}
+use Rattle.rules.specs.Rules.{MessageNo, Mapping, Step}
 use Rattle.rows.specs.Rows.{Bit}
 use Rattle.tables.specs.declared.Tables.{Tables}
 use Rattle.tables.specs.Cells.{relationsOfTables, TablesOk}
@@ -13,7 +13,7 @@ use Rattle.verdicts.specs.Verdicts.{WaitsOf, JudgementIs}
 
 -- Bit k of row m says that a step leads from m to k.
 abbrev pub StepsTold : Tables → Mapping → List ℕ → Type 0
-StepsTold t φ steps = (m k : ℕ) → m < t .«message_count» → Bit (getD steps m 0) k ↔ Step (relationsOfTables t) φ m k
+StepsTold t φ steps = (m k : MessageNo) → m < t .«message_count» → Bit (getD steps m 0) k ↔ Step (relationsOfTables t) φ m k
 
 -- r is the judgement for all tables with n messages, and all mappings, whose rows of waits and steps these are.
 abbrev pub JudgementOfRows : List ℕ → List ℕ → ℕ → JudgementFound → Type 0

@@ -1,4 +1,4 @@
--- `plan_cycle::names_length` meets its contract.
+-- `cycle::names_length` meets its contract.
 use mathlib.Core.Path.{_≡_, refl, ap, _∙_}
 use Prim.Native.Nat.{ℕ, _-_, _*_, _≤_, _<_}
 use lib.ListN.{length}

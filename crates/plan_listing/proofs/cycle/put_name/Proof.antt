@@ -1,4 +1,4 @@
--- `plan_cycle::put_name` meets its contract.
+-- `cycle::put_name` meets its contract.
 use Rattle.text.specs.Name.{nameText}
 use Rattle.text.specs.Words.{tab}
 use Rattle.text.proofs.Written.{more-room, then-more}

@@ -1,4 +1,4 @@
--- `plan_maps::digits` meets its contract.
+-- `maps::digits` meets its contract.
 use mathlib.Core.Path.{sym}
 use native.Mathlib.Omega.{arith}
 use Rattle.plan_listing.proofs.Lines.{digits-one, digits-two, digits-three}

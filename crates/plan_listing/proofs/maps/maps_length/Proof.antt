@@ -1,4 +1,4 @@
--- `plan_maps::maps_length` meets its contract.
+-- `maps::maps_length` meets its contract.
 use mathlib.Core.Path.{_≡_, ap, _∙_}
 use Prim.Native.Nat.{ℕ, _-_, _*_, _≤_}
 use lib.ListN.{length}
