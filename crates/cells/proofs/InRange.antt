@@ -19,7 +19,7 @@ use Rattle.tables.specs.declared.EventRow.{EventRow}
 use Rattle.tables.specs.declared.StateRow.{StateRow}
 use Rattle.tables.specs.declared.Cell.{Cell}
 use Rattle.tables.specs.declared.Tables.{Tables}
-use Rattle.tables.specs.Cells.{number, TriggerOk, OutcomeOk, CellOk, sentOf as numbersOf}
+use Rattle.tables.specs.Cells.{number, TriggerOk, OutcomeOk, CellOk, sentNumbers as numbersOf}
 use Rattle.tables.specs.names.Names.{messageAt, eventAt, stateAt, isMessage, isEvent, isState}
 use Rattle.text.specs.Line.{Line, field, says}
 use Rattle.lines.specs.Line.{cell, cellController, messageNo, triggerOf, outcomeOf, sentFields, sentOf, cellOf}

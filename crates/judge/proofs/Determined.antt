@@ -23,7 +23,7 @@ use Rattle.judge.specs.Determined.{JudgeDetermined}
 use Rattle.text.specs.Written.{Wrote}
 use Rattle.text.proofs.Determined.{wrote-determined}
 use Rattle.judge.specs.program.Printed.{MappingPrinted}
-use Rattle.judge.specs.program.Determined.{PrintedDetermined}
+use Rattle.judge.specs.program.Determined.{JudgePrintedDetermined}
 
 -- ---- the steps
 
@@ -98,7 +98,7 @@ mapping-printed-one t y l m v w = go (eqb (mappedFor t y .refusal .number) 0) re
     go true e = let a = eqb-true (mappedFor t y .refusal .number) 0 e in listing-one t (mappingOf (mappedFor t y .networks)) l m (v .judged a) (w .judged a)
     go false e = let n = eqb-false (mappedFor t y .refusal .number) 0 e in v .mapping-refused n ∙ sym (w .mapping-refused n)
 
-pub printed-determined : PrintedDetermined
+pub printed-determined : JudgePrintedDetermined
 printed-determined x y old new₁ new₂ j k v w =
     wrote-determined (v .printed) old new₁ new₂ j k (v .wrote) (subst (λ (l : List ℕ). Wrote l old new₂ k) (same (eqb (readProtocol x .refusal .number) 0) refl) (w .wrote))
   where

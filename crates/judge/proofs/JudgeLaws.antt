@@ -22,7 +22,7 @@ use Rattle.judge_listing.specs.Places.{GivenWalk, walkSteps}
 use Rattle.judge_listing.proofs.Places.{word-by-bit}
 use Rattle.verdicts.specs.declared.JudgementFound.{JudgementFound}
 use Rattle.verdicts.specs.Verdicts.{mappingOf, WaitsOf, Fitting, Unfitting, JudgementIs}
-use Rattle.judge.specs.Call.{Shows, ShowsAll, JudgementWritten, mappedFor, AfterProtocol, Call}
+use Rattle.judge.specs.Call.{Shows, ShowsAll, JudgementWritten, mappedFor, AfterProtocol, JudgeCall}
 
 -- ---- the words that the rows of waits tell
 
@@ -98,14 +98,14 @@ module _ (t : Tables) (y : List ℕ) (m : Mapped) (is : m ≡ mappedFor t y) whe
 -- ---- the call
 
 module _ (x y : List ℕ) (p : Reading) (is : p ≡ readProtocol x) where
-  pub call-refused : p .refusal .number ≢ 0 → (old : List ℕ) (r : Answer) → r ≡ refusedAt (p .refusal) 0 → Call x y old old r
+  pub call-refused : p .refusal .number ≢ 0 → (old : List ℕ) (r : Answer) → r ≡ refusedAt (p .refusal) 0 → JudgeCall x y old old r
   call-refused h old r e =
       record {
         protocol-refused = λ n. record { answer = e ∙ ap (λ (z : Reading). refusedAt (z .refusal) 0) is; bytes = refl };
         protocol-accepted = λ z. absurd (h (ap (λ (k : Reading). k .refusal .number) is ∙ z));
       }
 
-  pub call-accepted : p .refusal .number ≡ 0 → (old new : List ℕ) (r : Answer) → AfterProtocol (p .tables) y old new r → Call x y old new r
+  pub call-accepted : p .refusal .number ≡ 0 → (old new : List ℕ) (r : Answer) → AfterProtocol (p .tables) y old new r → JudgeCall x y old new r
   call-accepted z old new r j =
       record {
         protocol-refused = λ n. absurd (n (ap (λ (k : Reading). k .refusal .number) (sym is) ∙ z));

@@ -70,6 +70,6 @@ pub record AfterProtocol (t : Tables) (mapping old new : List ℕ) (r : Answer) 
   pub judged : mappedFor t mapping .refusal .number ≡ 0 → JudgementWritten t (mappingOf (mappedFor t mapping .networks)) old new r
 
 -- "A judgement checks the protocol (paper 0), then the mapping (paper 1: 1 to 4, 14, 15), then 16."
-pub record Call (protocol mapping old new : List ℕ) (r : Answer) : Type 0 where
+pub record JudgeCall (protocol mapping old new : List ℕ) (r : Answer) : Type 0 where
   pub protocol-refused : readProtocol protocol .refusal .number ≢ 0 → Refused (readProtocol protocol .refusal) 0 old new r
   pub protocol-accepted : readProtocol protocol .refusal .number ≡ 0 → AfterProtocol (readProtocol protocol .tables) mapping old new r

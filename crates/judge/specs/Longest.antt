@@ -7,7 +7,7 @@ use Rattle.rules.specs.Rules.{Mapping}
 use Rattle.protocol.specs.Reading.{readProtocol}
 use Rattle.answers.specs.declared.Answer.{Answer}
 use Rattle.answers.specs.Answers.{Small}
-use Rattle.judge.specs.Call.{JudgeListing, Call}
+use Rattle.judge.specs.Call.{JudgeListing, JudgeCall}
 
 abbrev pub JudgeLength : Type 0
 JudgeLength =
@@ -16,4 +16,4 @@ JudgeLength =
 
 -- So every number of an answer has its place in the packed number.
 abbrev pub JudgeSmall : Type 0
-JudgeSmall = (protocol mapping old new : List ℕ) (r : Answer) → Call protocol mapping old new r → Small r
+JudgeSmall = (protocol mapping old new : List ℕ) (r : Answer) → JudgeCall protocol mapping old new r → Small r

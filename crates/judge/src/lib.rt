@@ -6,7 +6,7 @@ ghost use Prim.Native.Nat.{_<_};
 ghost use Rattle.tables.specs.Cells.{TablesOk};
 ghost use Rattle.protocol.specs.Reading.{readProtocol};
 ghost use Rattle.verdicts.specs.Verdicts.{mappingOf};
-ghost use Rattle.judge.specs.Call.{JudgementWritten, AfterProtocol, Call};
+ghost use Rattle.judge.specs.Call.{JudgementWritten, AfterProtocol, JudgeCall};
 use answers::Answer;
 use rules::Network;
 use tables::Tables;
@@ -42,7 +42,7 @@ fn judge_mapping(t: Tables, mapping: &[u8], out: &mut [u8]) -> Answer
 
 // The judgement of a mapping text for a protocol text.
 pub fn judge(protocol: &[u8], mapping: &[u8], out: &mut [u8]) -> Answer
-    ensures { λ r. ⌜ Call (now (protocol .entry)) (now (mapping .entry)) (now (out .entry)) (now (out .exit)) r ⌝ }
+    ensures { λ r. ⌜ JudgeCall (now (protocol .entry)) (now (mapping .entry)) (now (out .entry)) (now (out .exit)) r ⌝ }
 {
     let r = protocol::read_protocol(protocol);
     if r.refusal.number != 0 {

@@ -90,8 +90,12 @@ outcomeOf t f = cond (says f 4 stallWord) Stall (Go (record { 0 = stateAt t (cel
 abbrev pub sentFields : Line → List (List ℕ)
 sentFields f = drop 6 f
 
+-- The messages with these names, behind which the list is as cleared.
+abbrev pub sentFrom : Tables → List (List ℕ) → List Message
+sentFrom t xs = map (messageNo t) xs ++ replicate (8 - length xs) (record { 0 = 0 })
+
 unfoldable pub sentOf : Tables → Line → List Message
-sentOf t f = map (messageNo t) (sentFields f) ++ replicate (8 - length (sentFields f)) (record { 0 = 0 })
+sentOf t f = sentFrom t (sentFields f)
 
 unfoldable pub cellOf : Tables → Line → Cell
 cellOf t f =

@@ -23,7 +23,7 @@ use Rattle.plan.specs.Call.{Three, Two, PlanListing}
 use Rattle.plan.specs.Determined.{PlanDetermined}
 use Rattle.text.specs.Written.{Wrote}
 use Rattle.text.proofs.Determined.{wrote-determined}
-use Rattle.plan.specs.program.Determined.{PrintedDetermined}
+use Rattle.plan.specs.program.Determined.{PlanPrintedDetermined}
 
 -- ---- the listing
 
@@ -60,7 +60,7 @@ plan-determined text old new₁ new₂ r s c d = go (eqb (readProtocol text .ref
 
 -- ---- What the planning program prints is determined: the count and the lent bytes.
 
-pub printed-determined : PrintedDetermined
+pub printed-determined : PlanPrintedDetermined
 printed-determined text old new₁ new₂ j k v w =
     wrote-determined (v .printed) old new₁ new₂ j k (v .wrote) (subst (λ (l : List ℕ). Wrote l old new₂ k) (same (eqb (readProtocol text .refusal .number) 0) refl) (w .wrote))
   where

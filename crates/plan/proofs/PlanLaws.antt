@@ -14,7 +14,7 @@ use Rattle.answers.specs.Answers.{refusedAt, Listed}
 use Rattle.plan_listing.specs.PlanText.{classThree, classTwo, firstMessages, firstNetworks, MessagesBelow}
 use Rattle.verdicts.specs.declared.PlanFound.{PlanFound}
 use Rattle.verdicts.specs.Verdicts.{ThreeFound, TwoFound, PlanIs}
-use Rattle.plan.specs.Call.{PlanWritten, Call}
+use Rattle.plan.specs.Call.{PlanWritten, PlanCall}
 
 module _ (t : Tables) (v : PlanFound) (is : PlanIs (relationsOfTables t) v) where
   -- there is a count only in class 3
@@ -61,14 +61,14 @@ module _ (t : Tables) (v : PlanFound) (is : PlanIs (relationsOfTables t) v) wher
 -- ---- the call
 
 module _ (text : List ℕ) (x : Reading) (is : x ≡ readProtocol text) where
-  pub call-refused : x .refusal .number ≢ 0 → (old : List ℕ) (r : Answer) → r ≡ refusedAt (x .refusal) 0 → Call text old old r
+  pub call-refused : x .refusal .number ≢ 0 → (old : List ℕ) (r : Answer) → r ≡ refusedAt (x .refusal) 0 → PlanCall text old old r
   call-refused h old r e =
       record {
         refused = λ n. record { answer = e ∙ ap (λ (y : Reading). refusedAt (y .refusal) 0) is; bytes = refl };
         planned = λ z. absurd (h (ap (λ (y : Reading). y .refusal .number) is ∙ z));
       }
 
-  pub call-planned : x .refusal .number ≡ 0 → (old new : List ℕ) (r : Answer) → PlanWritten (x .tables) old new r → Call text old new r
+  pub call-planned : x .refusal .number ≡ 0 → (old new : List ℕ) (r : Answer) → PlanWritten (x .tables) old new r → PlanCall text old new r
   call-planned z old new r p =
       record {
         refused = λ n. absurd (n (ap (λ (y : Reading). y .refusal .number) (sym is) ∙ z));

@@ -45,6 +45,6 @@ pub record PlanWritten (t : Tables) (old new : List ℕ) (r : Answer) : Type 0 w
 -- ---- the call
 
 -- "A plan's protocol is paper 0." The order: 1 to 13 as the text is read, then 16.
-pub record Call (text old new : List ℕ) (r : Answer) : Type 0 where
+pub record PlanCall (text old new : List ℕ) (r : Answer) : Type 0 where
   pub refused : readProtocol text .refusal .number ≢ 0 → Refused (readProtocol text .refusal) 0 old new r
   pub planned : readProtocol text .refusal .number ≡ 0 → PlanWritten (readProtocol text .tables) old new r

@@ -6,11 +6,11 @@ use lib.ListN.{length}
 use Rattle.protocol.specs.Reading.{readProtocol}
 use Rattle.answers.specs.declared.Answer.{Answer}
 use Rattle.answers.specs.Answers.{Small}
-use Rattle.plan.specs.Call.{PlanListing, Call}
+use Rattle.plan.specs.Call.{PlanListing, PlanCall}
 
 abbrev pub PlanLength : Type 0
 PlanLength = (text listing : List ℕ) → readProtocol text .refusal .number ≡ 0 → PlanListing (readProtocol text .tables) listing → length listing ≤ 1054
 
 -- So every number of an answer has its place in the packed number.
 abbrev pub PlanSmall : Type 0
-PlanSmall = (text old new : List ℕ) (r : Answer) → Call text old new r → Small r
+PlanSmall = (text old new : List ℕ) (r : Answer) → PlanCall text old new r → Small r

@@ -3,7 +3,7 @@ pub mod program;
 
 ghost use Prim.Native.Nat.{_<_};
 ghost use Rattle.tables.specs.Cells.{TablesOk};
-ghost use Rattle.plan.specs.Call.{PlanWritten, Call};
+ghost use Rattle.plan.specs.Call.{PlanWritten, PlanCall};
 use answers::Answer;
 use tables::Tables;
 
@@ -30,7 +30,7 @@ fn plan_tables(t: Tables, out: &mut [u8]) -> Answer
 
 // The plan of a protocol text.
 pub fn plan(text: &[u8], out: &mut [u8]) -> Answer
-    ensures { λ r. ⌜ Call (now (text .entry)) (now (out .entry)) (now (out .exit)) r ⌝ }
+    ensures { λ r. ⌜ PlanCall (now (text .entry)) (now (out .entry)) (now (out .exit)) r ⌝ }
 {
     let r = protocol::read_protocol(text);
     if r.refusal.number != 0 {

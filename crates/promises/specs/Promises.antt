@@ -17,8 +17,8 @@ use Rattle.plan_listing.specs.PlanText.{classThree, classTwo}
 use Rattle.judge_listing.specs.fit.FitText.{fitText}
 use Rattle.judge_listing.specs.JudgeText.{ShownStep, unfitText}
 use Rattle.verdicts.specs.Verdicts.{mappingOf}
-use Rattle.plan.specs.Call.{Call as PlanCall}
-use Rattle.judge.specs.Call.{mappedFor, Call as JudgeCall}
+use Rattle.plan.specs.Call.{PlanCall}
+use Rattle.judge.specs.Call.{mappedFor, JudgeCall}
 
 -- The tables of an accepted protocol text.
 abbrev pub tablesOf : List ℕ → Tables

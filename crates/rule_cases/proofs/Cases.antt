@@ -11,7 +11,7 @@ use Rattle.rules.specs.Lists.{_∈_, Some}
 use Rattle.rules.specs.Rules.{Relations, Mapping, Waits, Step, Trigger, message, event, Outcome, stall, go, Cell, Causes, Enters, Carrier, Stalls}
 use Rattle.rules.specs.Plan.{Word, waits, queues, Says}
 use Rattle.rules.specs.Promises.{Accepted}
-use Rattle.rule_cases.specs.Cases.{Given, relations, tables, relationsOf, Listed, Answer, networks, cycle, fit, unfit, mapOf, Worded, Words, Right, Case, AllRight, cases, moreCases}
+use Rattle.rule_cases.specs.Cases.{Given, relations, tables, relationsOf, AmongPairs, CaseAnswer, networks, cycle, fit, unfit, mapOf, Worded, WordsAlong, Right, Case, AllRight, cases, moreCases}
 use Rattle.rules.proofs.Decided.{waits-within, step-within}
 use Rattle.rules.proofs.Entry.{some-get, some-map}
 use Rattle.rules.proofs.Given.{InRange, Every, tables-accepted}
@@ -28,7 +28,7 @@ abbrev listedb : List (ℕ × ℕ) → ℕ → ℕ → Bool
 listedb [] a b = false
 listedb (q ∷ l) a b = (eqb a (q .0) && eqb b (q .1)) || listedb l a b
 
-listed-tells : (l : List (ℕ × ℕ)) (a b : ℕ) → Tells (listedb l a b) (Listed l a b)
+listed-tells : (l : List (ℕ × ℕ)) (a b : ℕ) → Tells (listedb l a b) (AmongPairs l a b)
 listed-tells [] a b = (λ t. t, λ t. t)
 listed-tells (q ∷ l) a b = or-tells (eqb a (q .0) && eqb b (q .1)) (listedb l a b) (and-tells (eqb a (q .0)) (eqb b (q .1)) (eqb-tells a (q .0)) (eqb-tells b (q .1))) (listed-tells l a b)
 
@@ -36,7 +36,7 @@ abbrev smallb : ℕ → List (ℕ × ℕ) → Bool
 smallb n [] = true
 smallb n (q ∷ l) = ltb (q .0) n && ltb (q .1) n && smallb n l
 
-listed-small : (n : ℕ) (l : List (ℕ × ℕ)) → T (smallb n l) → (a b : ℕ) → Listed l a b → (a < n) × (b < n)
+listed-small : (n : ℕ) (l : List (ℕ × ℕ)) → T (smallb n l) → (a b : ℕ) → AmongPairs l a b → (a < n) × (b < n)
 listed-small n [] t a b h = absurd h
 listed-small n (q ∷ l) t a b (inl e) =
     let u = both (ltb (q .0) n) (ltb (q .1) n) (both (ltb (q .0) n && ltb (q .1) n) (smallb n l) t .0) in
@@ -234,7 +234,7 @@ wordsb s w (m ∷ l) vs = wordedb s w m (l ++ m ∷ []) vs
 abbrev stepRows : ℕ → (ℕ → ℕ → Bool) → (ℕ → ℕ → Bool) → Mapping → List (List Bool)
 stepRows n s w φ = rowsOf n (stepb n s w φ)
 
-abbrev answerb : ℕ → (ℕ → ℕ → Bool) → (ℕ → ℕ → Bool) → Answer → Bool
+abbrev answerb : ℕ → (ℕ → ℕ → Bool) → (ℕ → ℕ → Bool) → CaseAnswer → Bool
 answerb n s w (networks k l) = eqb (length l) n && planb n w (mapOf l) k
 answerb n s w (cycle ms) = shownb n w w ms
 answerb n s w (fit l) = let rows = rounds n (stepRows n s w (mapOf l)) in eqb (length l) n && fitb n w (at rows)
@@ -255,11 +255,11 @@ module _ (p : Relations) (acc : Accepted p) (s w : ℕ → ℕ → Bool) (s-tell
     worded-sound m (k ∷ l) [] t = t
     worded-sound m (k ∷ l) (v ∷ vs) t = let u = both (wordb steps w m v k) (wordedb steps w k l vs) t in (word-sound m v k (u .0), worded-sound k l vs (u .1))
 
-    words-sound : (ms : List ℕ) (vs : List Word) → T (wordsb steps w ms vs) → Words p φ ms vs
+    words-sound : (ms : List ℕ) (vs : List Word) → T (wordsb steps w ms vs) → WordsAlong p φ ms vs
     words-sound [] vs t = t
     words-sound (m ∷ l) vs t = worded-sound m (l ++ m ∷ []) vs t
 
-  answer-sound : (a : Answer) → T (answerb (p .count) s w a) → Right p a
+  answer-sound : (a : CaseAnswer) → T (answerb (p .count) s w a) → Right p a
   answer-sound (networks k l) t =
       let u = both (eqb (length l) (p .count)) (planb (p .count) w (mapOf l) k) t in
       let v = plan-sound p acc w w-tells (mapOf l) k (u .1) in

@@ -12,9 +12,9 @@ use Rattle.rules.specs.Plan.{LeastCount, Printed, PlanCycle, JudgeCycle, Word, 
 -- ---- what a case gives
 
 -- The pair of a and b is in the list.
-abbrev pub Listed : List (MessageNo × MessageNo) → Rel
-Listed [] a b = ⊥
-Listed (q ∷ l) a b = ((a ≡ q .0) × (b ≡ q .1)) ⊎ Listed l a b
+abbrev pub AmongPairs : List (MessageNo × MessageNo) → Rel
+AmongPairs [] a b = ⊥
+AmongPairs (q ∷ l) a b = ((a ≡ q .0) × (b ≡ q .1)) ⊎ AmongPairs l a b
 
 pub data Given : Type 0 where
   -- so many messages, the causes pairs and the stalls pairs
@@ -23,20 +23,20 @@ pub data Given : Type 0 where
   tables : ℕ → List Cell → Given
 
 abbrev pub relationsOf : Given → Relations
-relationsOf (relations n causes stalls) = record { count = n; causes = Listed causes; stalls = Listed stalls }
+relationsOf (relations n causes stalls) = record { count = n; causes = AmongPairs causes; stalls = AmongPairs stalls }
 relationsOf (tables n cells) = ofCells cells n
 
 -- ---- what a case answers
 
-pub data Answer : Type 0 where
+pub data CaseAnswer : Type 0 where
   -- class 3: the least count, and the network of each message
-  networks : ℕ → List NetworkNo → Answer
+  networks : ℕ → List NetworkNo → CaseAnswer
   -- class 2: the cycle
-  cycle : List MessageNo → Answer
+  cycle : List MessageNo → CaseAnswer
   -- this mapping is fit
-  fit : List NetworkNo → Answer
+  fit : List NetworkNo → CaseAnswer
   -- this mapping is unfit: the messages of the cycle, and the word at each step
-  unfit : List NetworkNo → List MessageNo → List Word → Answer
+  unfit : List NetworkNo → List MessageNo → List Word → CaseAnswer
 
 abbrev pub mapOf : List NetworkNo → Mapping
 mapOf l m = getD l m 0
@@ -49,20 +49,20 @@ Worded p φ m (k ∷ l) [] = ⊥
 Worded p φ m (k ∷ l) (w ∷ ws) = Says p φ m w k × Worded p φ k l ws
 
 -- The words at the steps of a closed walk.
-abbrev pub Words : Relations → Mapping → List MessageNo → List Word → Type 0
-Words p φ [] ws = ⊥
-Words p φ (m ∷ l) ws = Worded p φ m (l ++ m ∷ []) ws
+abbrev pub WordsAlong : Relations → Mapping → List MessageNo → List Word → Type 0
+WordsAlong p φ [] ws = ⊥
+WordsAlong p φ (m ∷ l) ws = Worded p φ m (l ++ m ∷ []) ws
 
 -- The rules give this answer. A mapping has a network for each message.
-abbrev pub Right : Relations → Answer → Type 0
+abbrev pub Right : Relations → CaseAnswer → Type 0
 Right p (networks k l) = (length l ≡ p .count) × LeastCount p k × Printed p (mapOf l)
 Right p (cycle ms) = PlanCycle p ms
 Right p (fit l) = (length l ≡ p .count) × Fit p (mapOf l)
-Right p (unfit l ms ws) = (length l ≡ p .count) × JudgeCycle p (mapOf l) ms × Words p (mapOf l) ms ws
+Right p (unfit l ms ws) = (length l ≡ p .count) × JudgeCycle p (mapOf l) ms × WordsAlong p (mapOf l) ms ws
 
 pub record Case : Type 0 where
   pub given : Given
-  pub answer : Answer
+  pub answer : CaseAnswer
 
 abbrev pub AllRight : List Case → Type 0
 AllRight [] = Unit {0}

@@ -3,7 +3,7 @@ ghost use mathlib.Core.Logic.{_↔_};
 ghost use Prim.Native.Nat.{ℕ};
 ghost use Rattle.rules.specs.Rules.{Carrier};
 ghost use Rattle.rows.specs.Rows.{Bit};
-ghost use Rattle.tables.specs.Cells.{cellOf, triggerOf, sentOf, CellOk, TablesOk};
+ghost use Rattle.tables.specs.Cells.{asRuleCell, asRuleTrigger, sentNumbers, CellOk, TablesOk};
 ghost use Rattle.tables.specs.Relations.{Adds, CarrierRows};
 ghost use Rattle.table_rows.specs.carriers.AtCell.{CellCarries};
 use tables::Cell;
@@ -14,7 +14,7 @@ use tables::Trigger;
 // The carriers of a cell: its trigger if that is a message, else the messages it sends.
 fn carriers(d: Cell) -> u32
     requires { ⌜ CellOk 32 8 64 d ⌝ }
-    ensures { λ r. ⌜ ((a : ℕ) → Bit r a ↔ Carrier (triggerOf (d .trigger)) (sentOf d) a) ⌝ }
+    ensures { λ r. ⌜ ((a : ℕ) → Bit r a ↔ Carrier (asRuleTrigger (d .trigger)) (sentNumbers d) a) ⌝ }
 {
     let t = d.trigger;
     match t {
@@ -26,7 +26,7 @@ fn carriers(d: Cell) -> u32
 // Rule 2 at one cell: the rows with the carriers of d, if it enters a state.
 fn with_carriers(rows: [u32; 64], d: Cell) -> [u32; 64]
     requires { ⌜ CellOk 32 8 64 d ⌝ }
-    ensures { λ r. ⌜ Adds (CellCarries (cellOf d)) rows r ⌝ }
+    ensures { λ r. ⌜ Adds (CellCarries (asRuleCell d)) rows r ⌝ }
 {
     let o = d.outcome;
     match o {

@@ -1,5 +1,5 @@
 // Rule 1: the rows of causes, over all the cells.
-ghost use Rattle.tables.specs.Cells.{cellOf, CellOk, TablesOk};
+ghost use Rattle.tables.specs.Cells.{asRuleCell, CellOk, TablesOk};
 ghost use Rattle.tables.specs.Relations.{Adds, CausesRows};
 ghost use Rattle.table_rows.specs.causes.AtCell.{CellCauses};
 use tables::Cell;
@@ -10,7 +10,7 @@ use tables::Trigger;
 // Rule 1 at one cell: the rows with what d causes.
 fn with_causes(rows: [u32; 32], d: Cell) -> [u32; 32]
     requires { ⌜ CellOk 32 8 64 d ⌝ }
-    ensures { λ r. ⌜ Adds (CellCauses (cellOf d)) rows r ⌝ }
+    ensures { λ r. ⌜ Adds (CellCauses (asRuleCell d)) rows r ⌝ }
 {
     let o = d.outcome;
     let t = d.trigger;

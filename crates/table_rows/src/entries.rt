@@ -3,7 +3,7 @@ ghost use mathlib.Core.Path.{_≡_};
 ghost use mathlib.Core.Logic.{_↔_};
 ghost use mathlib.Core.Bool.{true};
 ghost use Rattle.rows.specs.Rows.{Bit};
-ghost use Rattle.tables.specs.Cells.{cellOf, TablesOk};
+ghost use Rattle.tables.specs.Cells.{asRuleCell, TablesOk};
 ghost use Rattle.tables.specs.Relations.{FirstNoEntry};
 ghost use Rattle.table_rows.specs.entries.AtCell.{CellNoEntry};
 use tables::Cell;
@@ -13,7 +13,7 @@ use tables::Trigger;
 
 // Whether d stalls a message, and the row of its state's carriers is empty.
 fn lacks_entry(row: u32, d: Cell) -> bool
-    ensures { λ r. ⌜ (r ≡ true) ↔ CellNoEntry (Bit row) (cellOf d) ⌝ }
+    ensures { λ r. ⌜ (r ≡ true) ↔ CellNoEntry (Bit row) (asRuleCell d) ⌝ }
 {
     let o = d.outcome;
     let t = d.trigger;

@@ -3,13 +3,13 @@ ghost use mathlib.Core.Logic.{_↔_};
 ghost use Prim.Native.Nat.{ℕ};
 ghost use Rattle.rules.specs.Lists.{_∈_};
 ghost use Rattle.rows.specs.Rows.{Bit};
-ghost use Rattle.tables.specs.Cells.{sentOf, CellOk};
+ghost use Rattle.tables.specs.Cells.{sentNumbers, CellOk};
 use tables::Cell;
 
 // The messages that a cell sends, as a row.
 pub(crate) fn sent_row(d: Cell) -> u32
     requires { ⌜ CellOk 32 8 64 d ⌝ }
-    ensures { λ r. ⌜ ((b : ℕ) → Bit r b ↔ (b ∈ sentOf d)) ⌝ }
+    ensures { λ r. ⌜ ((b : ℕ) → Bit r b ↔ (b ∈ sentNumbers d)) ⌝ }
 {
     let n = d.sent_count as usize;
     let sent = d.sent;

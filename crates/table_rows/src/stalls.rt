@@ -2,36 +2,38 @@
 ghost use mathlib.Core.Logic.{_⊎_, _↔_};
 ghost use Prim.Native.Nat.{ℕ, _<_};
 ghost use Rattle.rows.specs.Rows.{Bit};
-ghost use Rattle.tables.specs.Cells.{cellOf, CellOk, TablesOk};
+ghost use Rattle.tables.specs.Cells.{asRuleCell, CellOk, TablesOk};
 ghost use Rattle.tables.specs.Relations.{Adds, StallsRows};
 ghost use Rattle.table_rows.specs.stalls.AtCell.{Among, CellStalls, Column};
+use rules::Message;
 use tables::Cell;
 use tables::Outcome;
 use tables::Tables;
 use tables::Trigger;
 
 // The row of a, with b if a is among who.
-fn column(row: u32, who: u32, a: usize, b: usize) -> u32
-    requires { ⌜ (a < 32) × (b < 32) ⌝ }
-    ensures { λ r. ⌜ ((j : ℕ) → Bit r j ↔ (Bit row j ⊎ Column who b a j)) ⌝ }
+fn column(row: u32, who: u32, a: Message, b: Message) -> u32
+    requires { ⌜ (a .0 < 32) × (b .0 < 32) ⌝ }
+    ensures { λ r. ⌜ ((j : ℕ) → Bit r j ↔ (Bit row j ⊎ Column who (b .0) (a .0) j)) ⌝ }
 {
-    if rows::has(who, a) {
-        rows::with_bit(row, b)
+    if rows::has(who, a.index()) {
+        rows::with_bit(row, b.index())
     } else {
         row
     }
 }
 
 // The rows with b in the row of each a among who.
-fn with_column(rows: [u32; 32], who: u32, b: usize) -> [u32; 32]
-    requires { ⌜ b < 32 ⌝ }
-    ensures { λ r. ⌜ Adds (Column who b) rows r ⌝ }
+fn with_column(rows: [u32; 32], who: u32, b: Message) -> [u32; 32]
+    requires { ⌜ b .0 < 32 ⌝ }
+    ensures { λ r. ⌜ Adds (Column who (b .0)) rows r ⌝ }
 {
     let mut next = rows;
-    let mut a = 0;
-    while a < 32 {
-        next[a] = column(next[a], who, a, b);
-        a += 1;
+    let mut i = 0;
+    while i < 32 {
+        let a = Message(i as u8);
+        next[i] = column(next[i], who, a, b);
+        i += 1;
     }
     next
 }
@@ -39,7 +41,7 @@ fn with_column(rows: [u32; 32], who: u32, b: usize) -> [u32; 32]
 // Rule 3 at one cell: the rows with who stalls d's message, if d stalls one.
 fn with_stalls(rows: [u32; 32], carriers: [u32; 64], d: Cell) -> [u32; 32]
     requires { ⌜ CellOk 32 8 64 d ⌝ }
-    ensures { λ r. ⌜ Adds (CellStalls (Among carriers) (cellOf d)) rows r ⌝ }
+    ensures { λ r. ⌜ Adds (CellStalls (Among carriers) (asRuleCell d)) rows r ⌝ }
 {
     let o = d.outcome;
     let t = d.trigger;
@@ -49,7 +51,7 @@ fn with_stalls(rows: [u32; 32], carriers: [u32; 64], d: Cell) -> [u32; 32]
             Trigger::Event(_) => rows,
             Trigger::Message(m) => {
                 let s = d.state.index();
-                with_column(rows, carriers[s], m.index())
+                with_column(rows, carriers[s], m)
             }
         },
     }

@@ -16,7 +16,7 @@ use Rattle.tables.specs.declared.Outcome.the-variants.{Stall, Go}
 use Rattle.tables.specs.declared.Cell.{Cell}
 use Rattle.tables.specs.declared.Tables.{Tables}
 use Rattle.tables.specs.Tables.{storedOf}
-use Rattle.tables.specs.Cells.{triggerOf, cellOf, cellsOf, relationsOfTables, Each, TriggerOk, OutcomeOk, CellOk, TablesOk}
+use Rattle.tables.specs.Cells.{asRuleTrigger, asRuleCell, cellsOf, relationsOfTables, Each, TriggerOk, OutcomeOk, CellOk, TablesOk}
 use Rattle.tables.specs.Relations.{CausesRows, StallsRows}
 use Rattle.tables.proofs.Gather.{each-take}
 
@@ -46,11 +46,11 @@ cell-at t i z ok e h =
 
 -- ---- the relations of such tables are accepted
 
-trigger-range : (m e : ℕ) (t : Trigger) → TriggerOk m e t → (k : ℕ) → triggerOf t ≡ message k → k < m
+trigger-range : (m e : ℕ) (t : Trigger) → TriggerOk m e t → (k : ℕ) → asRuleTrigger t ≡ message k → k < m
 trigger-range m e (OnMessage x) p k q = let d : x .0 ≡ k = cc in omega arith
 trigger-range m e (OnEvent x) p k q = let z : _≡_ {A = ℕ} 0 1 = cc in absurd (omega arith)
 
-every-range : (m e s : ℕ) (cells : List Cell) → Each (CellOk m e s) cells → Every (InRange m) (map cellOf cells)
+every-range : (m e s : ℕ) (cells : List Cell) → Each (CellOk m e s) cells → Every (InRange m) (map asRuleCell cells)
 unfolding Each
 every-range m e s [] h = tt
 every-range m e s (c ∷ cells) h = ((trigger-range m e (c .trigger) (h .0 .trigger), h .0 .sent), every-range m e s cells (h .1))

@@ -12,7 +12,7 @@ use Rattle.tables.specs.declared.StateRow.{StateRow}
 use Rattle.tables.specs.declared.Cell.{Cell}
 use Rattle.tables.specs.declared.Tables.{Tables}
 use Rattle.tables.specs.Tables.{noMessage, noEvent, noState, noCell, clearedTables, messagesOf, eventsOf, statesOf, storedOf, withMessage, withEvent, withState, withCell, ClearedPast}
-use Rattle.tables.specs.Cells.{cellOf, Each, CellOk, TablesOk}
+use Rattle.tables.specs.Cells.{asRuleCell, Each, CellOk, TablesOk}
 use Rattle.tables.proofs.Gather.{each-snoc, each-map}
 use Rattle.tables.proofs.InRange.{cell-more}
 
@@ -50,9 +50,9 @@ pub cell-stored : (t : Tables) (c : Cell) → t .«cell_count» < length (t .cel
 unfolding withCell
 cell-stored t c h = take-stored (t .cells) (t .«cell_count») c h
 
-map-snoc : (l : List Cell) (c : Cell) → map cellOf (l ++ (c ∷ [])) ≡ map cellOf l ++ (cellOf c ∷ [])
+map-snoc : (l : List Cell) (c : Cell) → map asRuleCell (l ++ (c ∷ [])) ≡ map asRuleCell l ++ (asRuleCell c ∷ [])
 map-snoc [] c = refl
-map-snoc (d ∷ l) c = ap (λ m. cellOf d ∷ m) (map-snoc l c)
+map-snoc (d ∷ l) c = ap (λ m. asRuleCell d ∷ m) (map-snoc l c)
 
 -- ---- what is past a count is as cleared, always
 

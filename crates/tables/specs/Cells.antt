@@ -13,27 +13,27 @@ use Rattle.tables.specs.declared.Cell.{Cell}
 use Rattle.tables.specs.declared.Tables.{Tables}
 use Rattle.tables.specs.Tables.{storedOf}
 
-abbrev pub triggerOf : Trigger → RuleTrigger
-triggerOf (OnMessage m) = message (m .0)
-triggerOf (OnEvent e) = event (e .0)
+abbrev pub asRuleTrigger : Trigger → RuleTrigger
+asRuleTrigger (OnMessage m) = message (m .0)
+asRuleTrigger (OnEvent e) = event (e .0)
 
-abbrev pub outcomeOf : Outcome → RuleOutcome
-outcomeOf Stall = stall
-outcomeOf (Go s) = go (s .0)
+abbrev pub asRuleOutcome : Outcome → RuleOutcome
+asRuleOutcome Stall = stall
+asRuleOutcome (Go s) = go (s .0)
 
 abbrev pub number : Message → ℕ
 number m = m .0
 
 -- The numbers of the messages that the cell sends: the first `sent_count` of its list.
-unfoldable pub sentOf : Cell → List ℕ
-sentOf c = map number (take (c .«sent_count») (c .sent))
+unfoldable pub sentNumbers : Cell → List ℕ
+sentNumbers c = map number (take (c .«sent_count») (c .sent))
 
-abbrev pub cellOf : Cell → RuleCell
-cellOf c = record { state = c .state .0; trigger = triggerOf (c .trigger); outcome = outcomeOf (c .outcome); sent = sentOf c }
+abbrev pub asRuleCell : Cell → RuleCell
+asRuleCell c = record { state = c .state .0; trigger = asRuleTrigger (c .trigger); outcome = asRuleOutcome (c .outcome); sent = sentNumbers c }
 
 -- The cells that the tables stand for: the first `cell_count`.
 unfoldable pub cellsOf : Tables → List RuleCell
-cellsOf t = map cellOf (storedOf t)
+cellsOf t = map asRuleCell (storedOf t)
 
 -- The relations that rules 1 to 3 give for the tables.
 abbrev pub relationsOfTables : Tables → Relations
@@ -60,7 +60,7 @@ pub record CellOk (messages events states : ℕ) (c : Cell) : Type 0 where
   pub own : c .state .0 < states
   pub trigger : TriggerOk messages events (c .trigger)
   pub next : OutcomeOk states (c .outcome)
-  pub sent : (b : ℕ) → b ∈ sentOf c → b < messages
+  pub sent : (b : ℕ) → b ∈ sentNumbers c → b < messages
 
 -- The counts are within the limits, and the numbers in the cells within the counts.
 pub record TablesOk (t : Tables) : Type 0 where

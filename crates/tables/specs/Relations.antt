@@ -7,7 +7,7 @@ use Rattle.rules.specs.Rules.{Causes, Carries, Stalls, NoEntry, Cell as RuleCel
 use Rattle.rows.specs.Rows.{Bit}
 use Rattle.tables.specs.declared.Tables.{Tables}
 use Rattle.tables.specs.Tables.{noCell}
-use Rattle.tables.specs.Cells.{cellOf, cellsOf}
+use Rattle.tables.specs.Cells.{asRuleCell, cellsOf}
 
 -- Bit b of row a says that a is in the relation R to b, for all numbers: no other bit is set, and what has no row is in no relation.
 abbrev pub RowsOf : (ℕ → ℕ → Type 0) → List ℕ → Type 0
@@ -31,7 +31,7 @@ StallsRows t rows = RowsOf (Stalls (cellsOf t)) rows
 
 -- Cell number i.
 abbrev pub cellAt : Tables → ℕ → RuleCell
-cellAt t i = cellOf (getD (t .cells) i noCell)
+cellAt t i = asRuleCell (getD (t .cells) i noCell)
 
 -- r is the first cell of a stalled message in a state whose entries have no carrier, or the number of cells where there is none.
 pub record FirstNoEntry (t : Tables) (r : ℕ) : Type 0 where

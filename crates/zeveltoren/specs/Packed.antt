@@ -9,8 +9,8 @@ use Rattle.relations.specs.call.Packed.{packedRelations}
 use Rattle.protocol.specs.Reading.{readProtocol}
 use Rattle.answers.specs.declared.Answer.{Answer}
 use Rattle.answers.specs.Answers.{refusedAt, packedAnswer}
-use Rattle.plan.specs.Call.{Call as PlanCall}
-use Rattle.judge.specs.Call.{Call as JudgeCall}
+use Rattle.plan.specs.Call.{PlanCall}
+use Rattle.judge.specs.Call.{JudgeCall}
 
 -- The relations call.
 pub record PackedRelations (n : ℕ) (causes stalls old new : List ℕ) (k : ℕ) : Type 0 where

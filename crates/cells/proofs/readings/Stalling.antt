@@ -18,12 +18,11 @@ use Rattle.tables.specs.Tables.{noState}
 use Rattle.tables.specs.Given.{Declared}
 use Rattle.tables.specs.names.Names.{stateAt, isState}
 use Rattle.text.specs.Line.{Line, field}
-use Rattle.lines.specs.Line.{cell, cellController, sentFields, sentOf, cellOf}
+use Rattle.lines.specs.Line.{cell, cellController, sentFields, sentOf, cellOf, sentFrom}
 use Rattle.lines.specs.Checks.{allMessages, knownCell, isStable, inStable, stallInStable}
 use Rattle.cells.specs.shapes.Shape.{Stalls}
 use Rattle.cells.specs.declared.places.Place.{Place}
 use Rattle.cells.specs.places.Place.{PlaceTold}
-use Rattle.cells.specs.targets.Target.{sentFrom}
 use Rattle.cells.proofs.targets.Sending.{noMessages}
 use Rattle.cells.specs.readings.Known.{CellRead}
 use Rattle.cells.proofs.readings.Whole.{same-cell, parted, own}

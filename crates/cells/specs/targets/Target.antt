@@ -1,10 +1,9 @@
 -- Where a cell goes to, and what it sends.
-use Prim.Native.Nat.{ℕ, _-_}
+use Prim.Native.Nat.{ℕ}
 use mathlib.Core.Path.{_≡_}
 use mathlib.Core.Bool.{true, false, _&&_}
-use mathlib.Core.List.{List, _++_, map}
+use mathlib.Core.List.{List}
 use lib.ListN.{length, replicate}
-use Rattle.rules.specs.declared.Message.{Message}
 use Rattle.tables.specs.declared.Controller.{Controller}
 use Rattle.tables.specs.declared.MessageRow.{MessageRow}
 use Rattle.tables.specs.declared.StateRow.{StateRow}
@@ -12,14 +11,10 @@ use Rattle.tables.specs.declared.Tables.{Tables}
 use Rattle.tables.specs.Given.{MessagesAre, StatesAre}
 use Rattle.tables.specs.names.Names.{stateAt, isState}
 use Rattle.text.specs.Line.{Line, field}
-use Rattle.lines.specs.Line.{messageNo, sentFields, sentOf}
+use Rattle.lines.specs.Line.{sentFields, sentFrom, sentOf}
 use Rattle.lines.specs.Checks.{allMessages}
 use Rattle.cells.specs.declared.targets.Sent.{Sent}
 use Rattle.cells.specs.declared.targets.Target.{Target}
-
--- The numbers of these messages, zeros behind them.
-abbrev pub sentFrom : Tables → List (List ℕ) → List Message
-sentFrom t xs = map (messageNo t) xs ++ replicate (8 - length xs) (record { 0 = 0 })
 
 pub record SentTold (xs : List (List ℕ)) (messages : List MessageRow) (message-count : ℕ) (r : Sent) : Type 0 where
   pub known : (t : Tables) → MessagesAre t messages message-count → r .known ≡ allMessages t xs

@@ -22,7 +22,7 @@ use Rattle.answers.specs.refused_text.RefusedText.{refusedText}
 use Rattle.answers.proofs.refused_text.RefusedLength.{refused-short}
 use Rattle.verdicts.specs.Verdicts.{mappingOf}
 use Rattle.answers.proofs.Listings.{listed-wrote, refused-parts}
-use Rattle.judge.specs.Call.{JudgementWritten, mappedFor, Call}
+use Rattle.judge.specs.Call.{JudgementWritten, mappedFor, JudgeCall}
 use Rattle.judge.specs.program.Printed.{JudgePrinted}
 use Rattle.judge.proofs.JudgeLongest.{judge-length}
 
@@ -35,7 +35,7 @@ record Stopped (why : Refusal) (paper : ℕ) (old new : List ℕ) (r : Answer) :
   some : why .number ≢ 0
   paper-low : paper < 10
 
-module _ (x y old new : List ℕ) (r : Answer) (room : 2048 ≤ length old) (c : Call x y old new r) where
+module _ (x y old new : List ℕ) (r : Answer) (room : 2048 ≤ length old) (c : JudgeCall x y old new r) where
   abbrev t : Tables
   t = readProtocol x .tables
 

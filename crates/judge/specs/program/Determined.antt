@@ -5,5 +5,5 @@ use Rattle.determined.specs.Determined.{DeterminesLent}
 use Rattle.judge.specs.program.Printed.{JudgePrinted}
 
 -- What the judging program prints is one thing.
-abbrev pub PrintedDetermined : Type 0
-PrintedDetermined = (protocol mapping old : List ℕ) → DeterminesLent (JudgePrinted protocol mapping old)
+abbrev pub JudgePrintedDetermined : Type 0
+JudgePrintedDetermined = (protocol mapping old : List ℕ) → DeterminesLent (JudgePrinted protocol mapping old)

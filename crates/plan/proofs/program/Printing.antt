@@ -17,11 +17,11 @@ use Rattle.answers.specs.Answers.{Refused}
 use Rattle.answers.proofs.Listings.{listed-wrote, refused-parts}
 use Rattle.answers.specs.refused_text.RefusedText.{refusedText}
 use Rattle.answers.proofs.refused_text.RefusedLength.{refused-short}
-use Rattle.plan.specs.Call.{Call}
+use Rattle.plan.specs.Call.{PlanCall}
 use Rattle.plan.specs.program.Printed.{PlanPrinted}
 use Rattle.plan.proofs.PlanLongest.{plan-length}
 
-module _ (text old new : List ℕ) (r : Answer) (room : 2048 ≤ length old) (c : Call text old new r) where
+module _ (text old new : List ℕ) (r : Answer) (room : 2048 ≤ length old) (c : PlanCall text old new r) where
   -- a plan has number 0
   accepted : readProtocol text .refusal .number ≡ 0 → r .refusal .number ≡ 0
   accepted z =

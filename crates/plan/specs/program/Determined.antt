@@ -5,5 +5,5 @@ use Rattle.determined.specs.Determined.{DeterminesLent}
 use Rattle.plan.specs.program.Printed.{PlanPrinted}
 
 -- What the planning program prints is one thing.
-abbrev pub PrintedDetermined : Type 0
-PrintedDetermined = (text old : List ℕ) → DeterminesLent (PlanPrinted text old)
+abbrev pub PlanPrintedDetermined : Type 0
+PlanPrintedDetermined = (text old : List ℕ) → DeterminesLent (PlanPrinted text old)

@@ -16,7 +16,7 @@ use Rattle.papers.specs.Checks.{firstOf, refusal}
 use Rattle.tables.specs.declared.Cell.{Cell}
 use Rattle.tables.specs.declared.Tables.{Tables}
 use Rattle.tables.specs.Tables.{noCell}
-use Rattle.tables.specs.Cells.{cellOf, cellsOf}
+use Rattle.tables.specs.Cells.{asRuleCell, cellsOf}
 use Rattle.tables.specs.Relations.{cellAt, FirstNoEntry}
 use Rattle.protocol.specs.whole.Whole.{refused, accepted, unless, hasNoEntry, noEntryAt, cellLine, wholeRefusal}
 
@@ -51,10 +51,10 @@ module _ {A B : Type 0} (p : B → Bool) (g : A → B) where
 -- the code's answer is the place that the definition names
 pub entry-place : (t : Tables) (r : ℕ) → length (t .cells) ≡ 512 → t .«cell_count» ≤ 512 → FirstNoEntry t r → noEntryAt t ≡ r
 unfolding noEntryAt cellsOf
-entry-place t r long few h = first-map (hasNoEntry (cellsOf t)) cellOf (take (t .«cell_count») (t .cells)) ∙ go (eq-or-lt-of-le (h .within))
+entry-place t r long few h = first-map (hasNoEntry (cellsOf t)) asRuleCell (take (t .«cell_count») (t .cells)) ∙ go (eq-or-lt-of-le (h .within))
   where
     p : Cell → Bool
-    p c = hasNoEntry (cellsOf t) (cellOf c)
+    p c = hasNoEntry (cellsOf t) (asRuleCell c)
 
     before : (j : ℕ) → j < r → p (getD (t .cells) j noCell) ≡ false
     before j k = decided-no (no-entry? (cellsOf t) (cellAt t j)) (h .earlier j k)
@@ -68,7 +68,7 @@ pub first-no-entry : (t : Tables) → length (t .cells) ≡ 512 → t .«cell_co
 unfolding noEntryAt cellsOf
 first-no-entry t long few =
     let n = t .«cell_count» in
-    let q = first-map (hasNoEntry (cellsOf t)) cellOf (take n (t .cells)) in
+    let q = first-map (hasNoEntry (cellsOf t)) asRuleCell (take n (t .cells)) in
     let size : length (take n (t .cells)) ≡ n = length-take-le n (t .cells) (omega arith) in
     let le = first-le p (take n (t .cells)) in
     record {
@@ -84,7 +84,7 @@ first-no-entry t long few =
     }
   where
     p : Cell → Bool
-    p c = hasNoEntry (cellsOf t) (cellOf c)
+    p c = hasNoEntry (cellsOf t) (asRuleCell c)
 
 pub no-message : (t : Tables) → t .«message_count» ≡ 0 → unless (wholeRefusal t) (accepted t) ≡ refused (refusal 12 0)
 unfolding wholeRefusal firstOf

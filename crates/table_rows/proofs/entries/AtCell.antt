@@ -16,19 +16,19 @@ use Rattle.rows.proofs.Bits.{bit-zero, no-bits}
 use Rattle.tables.specs.declared.Trigger.the-variants.{Message as OnMessage, Event as OnEvent}
 use Rattle.tables.specs.declared.Outcome.the-variants.{Stall, Go}
 use Rattle.tables.specs.declared.Cell.{Cell}
-use Rattle.tables.specs.Cells.{triggerOf, outcomeOf, cellOf}
+use Rattle.tables.specs.Cells.{asRuleTrigger, asRuleOutcome, asRuleCell}
 use Rattle.tables.proofs.Apart.{stall-not-go, event-not-message}
 use Rattle.table_rows.specs.entries.AtCell.{CellNoEntry}
 
 module _ (d : Cell) (P : ℕ → Type 0) where
-  pub go-no-entry : (s : State) → d .outcome ≡ Go s → ¬ CellNoEntry P (cellOf d)
-  go-no-entry s e t = stall-not-go (outcomeOf (d .outcome)) (s .0) (t .1) (ap outcomeOf e)
+  pub go-no-entry : (s : State) → d .outcome ≡ Go s → ¬ CellNoEntry P (asRuleCell d)
+  go-no-entry s e t = stall-not-go (asRuleOutcome (d .outcome)) (s .0) (t .1) (ap asRuleOutcome e)
 
-  pub event-no-entry : (n : Event) → d .trigger ≡ OnEvent n → ¬ CellNoEntry P (cellOf d)
-  event-no-entry n e t = event-not-message (triggerOf (d .trigger)) (n .0) (t .0 .0) (ap triggerOf e) (t .0 .1)
+  pub event-no-entry : (n : Event) → d .trigger ≡ OnEvent n → ¬ CellNoEntry P (asRuleCell d)
+  event-no-entry n e t = event-not-message (asRuleTrigger (d .trigger)) (n .0) (t .0 .0) (ap asRuleTrigger e) (t .0 .1)
 
-  pub message-no-entry : (m : Message) → d .outcome ≡ Stall → d .trigger ≡ OnMessage m → ((a : ℕ) → ¬ P a) → CellNoEntry P (cellOf d)
-  message-no-entry m e f g = ((m .0, ap triggerOf f), ap outcomeOf e, g)
+  pub message-no-entry : (m : Message) → d .outcome ≡ Stall → d .trigger ≡ OnMessage m → ((a : ℕ) → ¬ P a) → CellNoEntry P (asRuleCell d)
+  message-no-entry m e f g = ((m .0, ap asRuleTrigger f), ap asRuleOutcome e, g)
 
 -- an answer `false`
 pub answer-no : {P : Type 0} → ¬ P → (false ≡ true) ↔ P

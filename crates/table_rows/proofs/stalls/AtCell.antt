@@ -12,21 +12,21 @@ use Rattle.rules.proofs.Entry.{some-map, some-get}
 use Rattle.tables.specs.declared.Trigger.the-variants.{Message as OnMessage, Event as OnEvent}
 use Rattle.tables.specs.declared.Outcome.the-variants.{Stall, Go}
 use Rattle.tables.specs.declared.Cell.{Cell}
-use Rattle.tables.specs.Cells.{triggerOf, outcomeOf, cellOf}
+use Rattle.tables.specs.Cells.{asRuleTrigger, asRuleOutcome, asRuleCell}
 use Rattle.tables.proofs.Apart.{stall-not-go, event-not-message, same-message}
 use Rattle.table_rows.specs.stalls.AtCell.{CellStalls}
 
 module _ (d : Cell) (C : ℕ → ℕ → Type 0) where
-  pub go-stalls : (s : State) → d .outcome ≡ Go s → (a b : ℕ) → ¬ CellStalls C (cellOf d) a b
-  go-stalls s e a b t = stall-not-go (outcomeOf (d .outcome)) (s .0) (t .1) (ap outcomeOf e)
+  pub go-stalls : (s : State) → d .outcome ≡ Go s → (a b : ℕ) → ¬ CellStalls C (asRuleCell d) a b
+  go-stalls s e a b t = stall-not-go (asRuleOutcome (d .outcome)) (s .0) (t .1) (ap asRuleOutcome e)
 
-  pub event-stalls : (n : Event) → d .trigger ≡ OnEvent n → (a b : ℕ) → ¬ CellStalls C (cellOf d) a b
-  event-stalls n e a b t = event-not-message (triggerOf (d .trigger)) (n .0) b (ap triggerOf e) (t .0)
+  pub event-stalls : (n : Event) → d .trigger ≡ OnEvent n → (a b : ℕ) → ¬ CellStalls C (asRuleCell d) a b
+  event-stalls n e a b t = event-not-message (asRuleTrigger (d .trigger)) (n .0) b (ap asRuleTrigger e) (t .0)
 
-  pub message-stalls : (m : Message) → d .outcome ≡ Stall → d .trigger ≡ OnMessage m → (a b : ℕ) → (C a (d .state .0) × (b ≡ m .0)) ↔ CellStalls C (cellOf d) a b
+  pub message-stalls : (m : Message) → d .outcome ≡ Stall → d .trigger ≡ OnMessage m → (a b : ℕ) → (C a (d .state .0) × (b ≡ m .0)) ↔ CellStalls C (asRuleCell d) a b
   message-stalls m e f a b = (
-    λ t. (ap triggerOf f ∙ ap message (sym (t .1)), ap outcomeOf e, t .0),
-    λ t. (t .2, same-message (triggerOf (d .trigger)) (m .0) b (ap triggerOf f) (t .0)),
+    λ t. (ap asRuleTrigger f ∙ ap message (sym (t .1)), ap asRuleOutcome e, t .0),
+    λ t. (t .2, same-message (asRuleTrigger (d .trigger)) (m .0) b (ap asRuleTrigger f) (t .0)),
   )
 
 -- rule 3 cell by cell: a stall cell, and who carries to its state

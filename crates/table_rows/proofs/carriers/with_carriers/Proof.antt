@@ -3,7 +3,7 @@ use Prim.Native.Nat.{_<_}
 use mathlib.Core.Path.{_≡_, subst}
 use native.Mathlib.Omega.{arith}
 use lib.ListN.{length}
-use Rattle.tables.specs.Cells.{OutcomeOk, cellOf}
+use Rattle.tables.specs.Cells.{OutcomeOk, asRuleCell}
 use Rattle.table_rows.specs.carriers.AtCell.{CellCarries}
 use Rattle.tables.proofs.Gather.{↔-trans}
 use Rattle.tables.proofs.Adding.{adds-none, adds-row}
@@ -22,7 +22,7 @@ enum-known-o : tie.Need-enum-known-o
 enum-known-o c = search needs
 
 returns : tie.Need-returns
-returns c = adds-none (CellCarries (cellOf (c .before .before .before .before .before .before .args .d))) (c .before .before .before .before .before .before .args .rows) (stays-carries (c .before .before .before .before .before .before .args .d) (c .before .before .before .before .o .given .0 .0) (c .before .before .before .before .o .given .1) (c .if1 .taken))
+returns c = adds-none (CellCarries (asRuleCell (c .before .before .before .before .before .before .args .d))) (c .before .before .before .before .before .before .args .rows) (stays-carries (c .before .before .before .before .before .before .args .d) (c .before .before .before .before .o .given .0 .0) (c .before .before .before .before .o .given .1) (c .if1 .taken))
 
 index-requires : tie.Need-index-requires
 index-requires c κs = search needs
@@ -43,14 +43,14 @@ array-write-next : tie.Need-array-write-next
 array-write-next c = rw (c .before .index .ensures) (small c)
 
 returns-2 : tie.Need-returns-2
-returns-2 c = adds-none (CellCarries (cellOf (c .before .before .args .d))) (c .before .before .args .rows) (stall-carries (c .before .before .args .d) (c .enum-told .given .1))
+returns-2 c = adds-none (CellCarries (asRuleCell (c .before .before .args .d))) (c .before .before .args .rows) (stall-carries (c .before .before .args .d) (c .enum-told .given .1))
 
 returns-3 : tie.Need-returns-3
 returns-3 c =
     let s = c .before .before .before .before .before .before .o .given in
     let e : length (c .before .before .before .before .before .before .before .before .args .rows) ≡ 64 = search needs in
     rw (c .before .index .ensures)
-    (adds-row (CellCarries (cellOf (c .before .before .before .before .before .before .before .before .args .d))) (c .before .before .before .before .before .before .before .before .args .rows) (s .0 .0 .0) (c .carriers .result) (omega (arith, small c))
+    (adds-row (CellCarries (asRuleCell (c .before .before .before .before .before .before .before .before .args .d))) (c .before .before .before .before .before .before .before .before .args .rows) (s .0 .0 .0) (c .carriers .result) (omega (arith, small c))
     (λ a. ↔-trans (c .carriers .ensures a) (enters-carries (c .before .before .before .before .before .before .before .before .args .d) (s .0 .0) (s .1) (c .before .before .if1 .left) a))
     (carries-own (c .before .before .before .before .before .before .before .before .args .d) (s .0 .0) (s .1)))
 

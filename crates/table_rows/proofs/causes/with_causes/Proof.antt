@@ -3,7 +3,7 @@ use Prim.Native.Nat.{_<_}
 use mathlib.Core.Path.{_≡_, subst}
 use native.Mathlib.Omega.{arith}
 use lib.ListN.{length}
-use Rattle.tables.specs.Cells.{TriggerOk, cellOf}
+use Rattle.tables.specs.Cells.{TriggerOk, asRuleCell}
 use Rattle.table_rows.specs.causes.AtCell.{CellCauses}
 use Rattle.tables.proofs.Gather.{↔-trans}
 use Rattle.tables.proofs.Adding.{adds-none, adds-row}
@@ -46,10 +46,10 @@ array-write-next : tie.Need-array-write-next
 array-write-next c = rw (c .before .index .ensures) (small c)
 
 returns : tie.Need-returns
-returns c = adds-none (CellCauses (cellOf (c .before .before .args .d))) (c .before .before .args .rows) (stall-causes (c .before .before .args .d) (c .enum-told .given .1))
+returns c = adds-none (CellCauses (asRuleCell (c .before .before .args .d))) (c .before .before .args .rows) (stall-causes (c .before .before .args .d) (c .enum-told .given .1))
 
 returns-2 : tie.Need-returns-2
-returns-2 c = adds-none (CellCauses (cellOf (c .before .before .before .before .args .d))) (c .before .before .before .before .args .rows) (event-causes (c .before .before .before .before .args .d) (c .enum-told3 .given .0 .0) (c .enum-told3 .given .1))
+returns-2 c = adds-none (CellCauses (asRuleCell (c .before .before .before .before .args .d))) (c .before .before .before .before .args .rows) (event-causes (c .before .before .before .before .args .d) (c .enum-told3 .given .0 .0) (c .enum-told3 .given .1))
 
 returns-3 : tie.Need-returns-3
 returns-3 c =
@@ -57,7 +57,7 @@ returns-3 c =
     let g = c .before .before .before .before .before .enum-told2 .given in
     let e : length (c .before .before .before .before .before .before .before .args .rows) ≡ 32 = search needs in
     rw (c .before .index .ensures)
-    (adds-row (CellCauses (cellOf (c .before .before .before .before .before .before .before .args .d))) (c .before .before .before .before .before .before .before .args .rows) (m .0 .0 .0) (c .sent-row .result) (omega (arith, small c))
+    (adds-row (CellCauses (asRuleCell (c .before .before .before .before .before .before .before .args .d))) (c .before .before .before .before .before .before .before .args .rows) (m .0 .0 .0) (c .sent-row .result) (omega (arith, small c))
     (λ b. ↔-trans (c .sent-row .ensures b) (message-causes (c .before .before .before .before .before .before .before .args .d) (g .0 .0) (m .0 .0) (g .1) (m .1) b))
     (causes-own (c .before .before .before .before .before .before .before .args .d) (m .0 .0) (m .1)))
 

@@ -11,7 +11,7 @@ use Rattle.rules.specs.Rules.{NoEntry, Carries}
 use Rattle.rows.specs.Rows.{Bit}
 use Rattle.tables.specs.declared.Cell.{Cell}
 use Rattle.tables.specs.Tables.{noCell}
-use Rattle.tables.specs.Cells.{cellOf, cellsOf}
+use Rattle.tables.specs.Cells.{asRuleCell, cellsOf}
 use Rattle.tables.specs.Relations.{cellAt}
 use Rattle.tables.proofs.Gather.{↔-trans}
 use Rattle.tables.proofs.InRange.{cell-at}
@@ -42,9 +42,9 @@ entry c =
     let d = getD (t .cells) i zeroCell in
     let s = c .before .index .result in
     let e = long (c .before .before .before .before .before .before) in
-    subst (λ (x : Cell). (c .lacks-entry .result ≡ true) ↔ NoEntry (cellsOf t) (cellOf x)) (getD-within (t .cells) i zeroCell noCell (omega (arith, c .before .before .before .before .before .before .pre .few)))
+    subst (λ (x : Cell). (c .lacks-entry .result ≡ true) ↔ NoEntry (cellsOf t) (asRuleCell x)) (getD-within (t .cells) i zeroCell noCell (omega (arith, c .before .before .before .before .before .before .pre .few)))
     (↔-trans (c .lacks-entry .ensures)
-    (no-entry-row (cellsOf t) (Bit (getD rows s 0)) (cellOf d)
+    (no-entry-row (cellsOf t) (Bit (getD rows s 0)) (asRuleCell d)
     (λ a. subst (λ (x : ℕ). Bit (getD rows x 0) a ↔ Carries (cellsOf t) a (d .state .0)) (sym (c .before .index .ensures)) (c .before .before .before .before .before .carrier-rows .ensures (d .state .0) a))))
 
 carrier-rows-requires : tie.Need-carrier-rows-requires Inv-loop μ-loop

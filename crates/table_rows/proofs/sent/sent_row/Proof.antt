@@ -11,7 +11,7 @@ use borrow.Author.Needs.{needs}
 use Rattle.rules.specs.Lists.{Some}
 use Rattle.rows.specs.Rows.{Bit}
 use Rattle.rows.proofs.Bits.{bit-zero}
-use Rattle.tables.specs.Cells.{number, sentOf}
+use Rattle.tables.specs.Cells.{number, sentNumbers}
 use Rattle.tables.proofs.Gather.{gather-none, gather-more, gather-done, in-some, ↔-sym, ↔-trans}
 use Rattle.table_rows.proofs.sent.sent_row.Statement.{statement}
 use Rattle.table_rows.proofs.sent.sent_row.Tie as tie
@@ -64,8 +64,8 @@ loop-again c =
     )
 
 returns : tie.Need-returns Inv-loop μ-loop
-unfolding sentOf
-returns c = λ b. ↔-trans (gather-done number (λ y. b ≡ y) (Bit (c .before .loop .row) b) (c .before .before .before .before .args .d .sent) (c .before .loop .i) (c .before .before .before .before .args .d .«sent_count») (omega arith) (omega arith) (c .before .loop .inv .1 b)) (↔-sym (in-some b (sentOf (c .before .before .before .before .args .d))))
+unfolding sentNumbers
+returns c = λ b. ↔-trans (gather-done number (λ y. b ≡ y) (Bit (c .before .loop .row) b) (c .before .before .before .before .args .d .sent) (c .before .loop .i) (c .before .before .before .before .args .d .«sent_count») (omega arith) (omega arith) (c .before .loop .inv .1 b)) (↔-sym (in-some b (sentNumbers (c .before .before .before .before .args .d))))
 
 pub sent-row-spec : {M : Type 1} → statement M
 sent-row-spec =

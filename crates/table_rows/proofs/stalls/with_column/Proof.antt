@@ -1,4 +1,4 @@
--- `stalling::with_column` meets its contract.
+-- `table_rows::stalls::with_column` meets its contract.
 use Prim.Native.Nat.{_-_}
 use native.Mathlib.Omega.{arith}
 use borrow.Author.Needs.{needs}
@@ -7,19 +7,22 @@ use Rattle.table_rows.proofs.stalls.with_column.Statement.{statement}
 use Rattle.table_rows.proofs.stalls.with_column.Tie as tie
 
 abbrev Inv-loop : tie.InvT-loop
-Inv-loop who b next₀ a₀ next a = Columns who b next₀ a next
+Inv-loop who b next₀ i₀ next i = Columns who (b .0) next₀ i next
 
 abbrev μ-loop : tie.MeasureT-loop
-μ-loop who b next₀ a₀ next a = 32 - a
+μ-loop who b next₀ i₀ next i = 32 - i
 
 loop-holds : tie.Need-loop-holds Inv-loop μ-loop
-loop-holds c = columns-start (c .args .who) (c .args .b) (c .args .rows) (search needs)
+loop-holds c = columns-start (c .args .who) (c .args .b .0) (c .args .rows) (search needs)
 
 mul-column : tie.Need-mul-column Inv-loop μ-loop
 mul-column c = omega arith
 
 array-read-column : tie.Need-array-read-column Inv-loop μ-loop
 array-read-column c = omega arith
+
+cast-t8 : tie.Need-cast-t8 Inv-loop μ-loop
+cast-t8 c = omega arith
 
 column-requires : tie.Need-column-requires Inv-loop μ-loop
 column-requires c κs = (omega arith, c .before .before .pre)
@@ -30,17 +33,17 @@ mul-next c = omega arith
 array-write-next : tie.Need-array-write-next Inv-loop μ-loop
 array-write-next c = omega arith
 
-add-a : tie.Need-add-a Inv-loop μ-loop
-add-a c = omega arith
+add-i : tie.Need-add-i Inv-loop μ-loop
+add-i c = omega arith
 
 loop-less : tie.Need-loop-less Inv-loop μ-loop
 loop-less c = omega arith
 
 loop-again : tie.Need-loop-again Inv-loop μ-loop
-loop-again c = columns-more (c .before .before .before .args .who) (c .before .before .before .args .b) (c .before .before .before .args .rows) (c .before .before .loop .a) (c .before .before .loop .next) (c .column .result) (omega arith) (c .before .before .loop .inv) (c .column .ensures)
+loop-again c = columns-more (c .before .before .before .args .who) (c .before .before .before .args .b .0) (c .before .before .before .args .rows) (c .before .before .loop .i) (c .before .before .loop .next) (c .column .result) (omega arith) (c .before .before .loop .inv) (c .column .ensures)
 
 returns : tie.Need-returns Inv-loop μ-loop
-returns c = columns-end (c .before .before .args .who) (c .before .before .args .b) (c .before .before .args .rows) (c .before .loop .a) (c .before .loop .next) (omega arith) (omega arith) (c .before .loop .inv)
+returns c = columns-end (c .before .before .args .who) (c .before .before .args .b .0) (c .before .before .args .rows) (c .before .loop .i) (c .before .loop .next) (omega arith) (omega arith) (c .before .loop .inv)
 
 pub with-column-spec : {M : Type 1} → statement M
 with-column-spec =
@@ -49,12 +52,13 @@ with-column-spec =
     Inv-loop
     μ-loop
     loop-holds
+    cast-t8
     mul-column
     array-read-column
     column-requires
     mul-next
     array-write-next
-    add-a
+    add-i
     loop-less
     loop-again
     returns)

@@ -1,7 +1,7 @@
--- `stalling::with_stalls` meets its contract.
+-- `table_rows::stalls::with_stalls` meets its contract.
 use mathlib.Core.Path.{subst}
 use lib.ListN.{getD}
-use Rattle.tables.specs.Cells.{TriggerOk, cellOf}
+use Rattle.tables.specs.Cells.{TriggerOk, asRuleCell}
 use Rattle.table_rows.specs.stalls.AtCell.{Among, Column, CellStalls}
 use Rattle.tables.proofs.Adding.{adds-none, adds-same}
 use Rattle.table_rows.proofs.stalls.AtCell.{go-stalls, event-stalls, message-stalls}
@@ -30,27 +30,24 @@ mul-with-column c = search needs
 array-read-with-column : tie.Need-array-read-with-column
 array-read-with-column c = search needs
 
-index-requires-2 : tie.Need-index-requires-2
-index-requires-2 c κs = search needs
-
 with-column-requires : tie.Need-with-column-requires
-with-column-requires c κs = rw (c .index2 .ensures) (subst (TriggerOk 32 8) (c .before .before .before .t .given .1) (c .before .before .before .before .before .before .before .pre .trigger))
+with-column-requires c κs = subst (TriggerOk 32 8) (c .before .before .t .given .1) (c .before .before .before .before .before .before .pre .trigger)
 
 returns : tie.Need-returns
-returns c = adds-none (CellStalls (Among (c .before .before .args .t2)) (cellOf (c .before .before .args .d))) (c .before .before .args .rows) (go-stalls (c .before .before .args .d) (Among (c .before .before .args .t2)) (c .enum-told .given .0 .0) (c .enum-told .given .1))
+returns c = adds-none (CellStalls (Among (c .before .before .args .t2)) (asRuleCell (c .before .before .args .d))) (c .before .before .args .rows) (go-stalls (c .before .before .args .d) (Among (c .before .before .args .t2)) (c .enum-told .given .0 .0) (c .enum-told .given .1))
 
 returns-2 : tie.Need-returns-2
-returns-2 c = adds-none (CellStalls (Among (c .before .before .before .before .args .t2)) (cellOf (c .before .before .before .before .args .d))) (c .before .before .before .before .args .rows) (event-stalls (c .before .before .before .before .args .d) (Among (c .before .before .before .before .args .t2)) (c .enum-told3 .given .0 .0) (c .enum-told3 .given .1))
+returns-2 c = adds-none (CellStalls (Among (c .before .before .before .before .args .t2)) (asRuleCell (c .before .before .before .before .args .d))) (c .before .before .before .before .args .rows) (event-stalls (c .before .before .before .before .args .d) (Among (c .before .before .before .before .args .t2)) (c .enum-told3 .given .0 .0) (c .enum-told3 .given .1))
 
 returns-3 : tie.Need-returns-3
 returns-3 c =
-    let d = c .before .before .before .before .before .before .before .before .args .d in
-    let rows = c .before .before .before .before .before .before .before .before .args .rows in
-    let carriers = c .before .before .before .before .before .before .before .before .args .t2 in
-    let m = c .before .before .before .before .t .given in
-    adds-same (Column (getD carriers (d .state .0) 0) (m .0 .0 .0)) (CellStalls (Among carriers) (cellOf d)) rows (c .with-column .result)
-    (message-stalls d (Among carriers) (m .0 .0) (c .before .before .before .before .before .before .enum-told2 .given .1) (m .1))
-    (rw (c .before .before .index .ensures, c .before .index2 .ensures) at (c .with-column .ensures))
+    let d = c .before .before .before .before .before .before .before .args .d in
+    let rows = c .before .before .before .before .before .before .before .args .rows in
+    let carriers = c .before .before .before .before .before .before .before .args .t2 in
+    let m = c .before .before .before .t .given in
+    adds-same (Column (getD carriers (d .state .0) 0) (m .0 .0 .0)) (CellStalls (Among carriers) (asRuleCell d)) rows (c .with-column .result)
+    (message-stalls d (Among carriers) (m .0 .0) (c .before .before .before .before .before .enum-told2 .given .1) (m .1))
+    (rw (c .before .index .ensures) at (c .with-column .ensures))
 
 pub with-stalls-spec : {M : Type 1} → statement M
 with-stalls-spec =
@@ -63,7 +60,6 @@ with-stalls-spec =
     index-requires
     mul-with-column
     array-read-with-column
-    index-requires-2
     with-column-requires
     returns
     returns-2
