@@ -111,7 +111,7 @@ fn print_row(row: u32) {
 }
 
 // The rows of the messages.
-fn print_rows(rows: [u32; 32], count: usize)
+fn print_rows(rows: [u32; tables::MESSAGES], count: usize)
     requires { ⌜ count ≤ 32 ⌝ }
 {
     let mut i: usize = 0;
@@ -122,13 +122,13 @@ fn print_rows(rows: [u32; 32], count: usize)
 }
 
 // The networks of the messages.
-fn print_networks(networks: [Network; 32], count: usize)
+fn print_networks(networks: [Network; tables::MESSAGES], count: usize)
     requires { ⌜ count ≤ 32 ⌝ }
 {
     let mut i: usize = 0;
     while i < count {
         let network = networks[i];
-        print_number(network.index());
+        print_number(network.0 as usize);
         i += 1;
     }
 }
@@ -202,7 +202,7 @@ fn protocol_of(n: usize) -> Reading
 }
 
 // As many bytes of the input as there is room, as a mapping text of the first messages.
-fn mapping_in(room: &mut [u8], messages: [MessageRow; 32], count: usize) -> Mapped
+fn mapping_in(room: &mut [u8], messages: [MessageRow; tables::MESSAGES], count: usize) -> Mapped
     requires { ⌜ count ≤ 32 ⌝ }
 {
     let got = io::read_full(0, room);
@@ -210,7 +210,7 @@ fn mapping_in(room: &mut [u8], messages: [MessageRow; 32], count: usize) -> Mapp
 }
 
 // The next n bytes as a mapping text of the first messages.
-fn mapping_of(n: usize, messages: [MessageRow; 32], count: usize) -> Mapped
+fn mapping_of(n: usize, messages: [MessageRow; tables::MESSAGES], count: usize) -> Mapped
     requires { ⌜ (n ≤ 65536) × (count ≤ 32) ⌝ }
 {
     let mut text = io::large_buffer();

@@ -42,14 +42,14 @@ fn refused(number: u8, nth: usize) -> CellLine
 }
 
 // The refusals 7 to 11 of the nth line, the smallest number first.
-fn judged(at: CellReading, nth: usize, cells: [Cell; 512], count: usize) -> CellLine
+fn judged(at: CellReading, nth: usize, cells: [Cell; tables::CELLS], count: usize) -> CellLine
     requires { ⌜ count ≤ 512 ⌝ }
     ensures { λ r. ⌜ CellJudged at nth cells count r ⌝ }
 {
     if !at.known {
         return refused(papers::UNKNOWN, nth);
     }
-    if 512 <= count {
+    if tables::CELLS <= count {
         return refused(papers::FULL, nth);
     }
     if at.stuck {
@@ -70,13 +70,13 @@ pub fn cell_line(
     line: &[u8],
     f: Fields,
     nth: usize,
-    messages: [MessageRow; 32],
+    messages: [MessageRow; tables::MESSAGES],
     message_count: usize,
-    events: [EventRow; 8],
+    events: [EventRow; tables::EVENTS],
     event_count: usize,
-    states: [StateRow; 64],
+    states: [StateRow; tables::STATES],
     state_count: usize,
-    cells: [Cell; 512],
+    cells: [Cell; tables::CELLS],
     count: usize,
 ) -> CellLine
     requires { ⌜ FieldsAre (now line) f × (says (split 9 (now line)) 0 cellWord ≡ true) × («message_count» ≤ 32) × («event_count» ≤ 8) × («state_count» ≤ 64) × (count ≤ 512) ⌝ }

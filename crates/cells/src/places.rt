@@ -31,7 +31,7 @@ pub struct Place {
 }
 
 // The event with this name as a trigger.
-fn event_at(part: &[u8], events: [EventRow; 8], count: usize) -> FoundTrigger
+fn event_at(part: &[u8], events: [EventRow; tables::EVENTS], count: usize) -> FoundTrigger
     requires { ⌜ count ≤ 8 ⌝ }
     ensures { λ r. ⌜ r ≡ eventTrigger (firstIndex (eventNamed (now (part .entry))) (take count events)) count ⌝ }
 {
@@ -46,9 +46,9 @@ fn event_at(part: &[u8], events: [EventRow; 8], count: usize) -> FoundTrigger
 fn trigger_at(
     part: &[u8],
     whose: Controller,
-    messages: [MessageRow; 32],
+    messages: [MessageRow; tables::MESSAGES],
     message_count: usize,
-    events: [EventRow; 8],
+    events: [EventRow; tables::EVENTS],
     event_count: usize,
 ) -> FoundTrigger
     requires { ⌜ («message_count» ≤ 32) × («event_count» ≤ 8) ⌝ }
@@ -69,11 +69,11 @@ pub(crate) fn place_of(
     line: &[u8],
     f: Fields,
     whose: Controller,
-    messages: [MessageRow; 32],
+    messages: [MessageRow; tables::MESSAGES],
     message_count: usize,
-    events: [EventRow; 8],
+    events: [EventRow; tables::EVENTS],
     event_count: usize,
-    states: [StateRow; 64],
+    states: [StateRow; tables::STATES],
     state_count: usize,
 ) -> Place
     requires { ⌜ FieldsAre (now line) f × (5 ≤ f .count) × («message_count» ≤ 32) × («event_count» ≤ 8) × («state_count» ≤ 64) ⌝ }

@@ -41,7 +41,7 @@ fn unread() -> CellReading
 // ---- The cell that a line with `stall` stands for.
 
 // Whether a declared state is a stable one.
-fn in_stable(states: [StateRow; 64], count: usize, state: State) -> bool
+fn in_stable(states: [StateRow; tables::STATES], count: usize, state: State) -> bool
     requires { ⌜ (state .0 < count) × (count ≤ 64) ⌝ }
     ensures { λ r. ⌜ r ≡ isStable (getD (take count states) (state .0) noState .stability) ⌝ }
 {
@@ -59,11 +59,11 @@ pub(crate) fn stall_of(
     line: &[u8],
     f: Fields,
     whose: Controller,
-    messages: [MessageRow; 32],
+    messages: [MessageRow; tables::MESSAGES],
     message_count: usize,
-    events: [EventRow; 8],
+    events: [EventRow; tables::EVENTS],
     event_count: usize,
-    states: [StateRow; 64],
+    states: [StateRow; tables::STATES],
     state_count: usize,
 ) -> CellReading
     requires { ⌜ FieldsAre (now line) f × Stalls (split 9 (now line)) whose × («message_count» ≤ 32) × («event_count» ≤ 8) × («state_count» ≤ 64) ⌝ }
@@ -89,7 +89,7 @@ pub(crate) fn stall_of(
         state: state,
         trigger: trigger,
         outcome: Outcome::Stall,
-        sent: [Message(0); 8],
+        sent: [Message(0); tables::SENT],
         sent_count: 0,
     };
     CellReading {
@@ -106,11 +106,11 @@ pub(crate) fn go_of(
     line: &[u8],
     f: Fields,
     whose: Controller,
-    messages: [MessageRow; 32],
+    messages: [MessageRow; tables::MESSAGES],
     message_count: usize,
-    events: [EventRow; 8],
+    events: [EventRow; tables::EVENTS],
     event_count: usize,
-    states: [StateRow; 64],
+    states: [StateRow; tables::STATES],
     state_count: usize,
 ) -> CellReading
     requires { ⌜ FieldsAre (now line) f × Goes (split 9 (now line)) whose × («message_count» ≤ 32) × («event_count» ≤ 8) × («state_count» ≤ 64) ⌝ }

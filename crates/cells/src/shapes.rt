@@ -7,6 +7,11 @@ use lines::words::FoundController;
 use tables::Controller;
 use text::Fields;
 
+// A stall has so many fields, and a `go` one to nine more: its next state, and the messages sent.
+const STALL_FIELDS: usize = 5;
+
+const MOST_FIELDS: usize = 14;
+
 // What a cell's line is made of: the controller that it names, and whether it stalls or goes on.
 pub enum Shape {
     Stall(Controller),
@@ -20,17 +25,17 @@ pub(crate) fn shape_of(line: &[u8], f: Fields) -> Shape
     ensures { λ r. ⌜ r ≡ shapeOf (split 9 (now (line .entry))) ⌝ }
 {
     let n = f.count;
-    if n < 5 {
+    if n < STALL_FIELDS {
         return Shape::Wrong;
     }
-    if 14 < n {
+    if MOST_FIELDS < n {
         return Shape::Wrong;
     }
     let found = lines::words::controller_at(line, f, 1);
     let FoundController::Is(whose) = found else {
         return Shape::Wrong;
     };
-    if n == 5 {
+    if n == STALL_FIELDS {
         if lines::word_at(line, f, 4, &text::words::STALL) {
             return Shape::Stall(whose);
         }

@@ -16,7 +16,7 @@ use text::Fields;
 // The messages that a line sends, where all are known.
 pub struct Sent {
     pub known: bool,
-    pub sent: [Message; 8],
+    pub sent: [Message; tables::SENT],
     pub count: u8,
 }
 
@@ -24,17 +24,22 @@ pub struct Sent {
 pub struct Target {
     pub known: bool,
     pub next: State,
-    pub sent: [Message; 8],
+    pub sent: [Message; tables::SENT],
     pub count: u8,
 }
 
 // The messages sent, which the line names from field 6 on.
-fn sent_of(line: &[u8], f: Fields, messages: [MessageRow; 32], message_count: usize) -> Sent
+fn sent_of(
+    line: &[u8],
+    f: Fields,
+    messages: [MessageRow; tables::MESSAGES],
+    message_count: usize,
+) -> Sent
     requires { ⌜ FieldsAre (now line) f × (6 ≤ f .count) × (f .count ≤ 14) × («message_count» ≤ 32) ⌝ }
     ensures { λ r. ⌜ SentTold (sentFields (split 9 (now (line .entry)))) messages «message_count» r ⌝ }
 {
     let n = f.count - 6;
-    let mut sent = [Message(0); 8];
+    let mut sent = [Message(0); tables::SENT];
     let mut j = 0;
     while j < n {
         let part = lines::field_at(line, f, 6 + j);
@@ -43,7 +48,7 @@ fn sent_of(line: &[u8], f: Fields, messages: [MessageRow; 32], message_count: us
             let declared = false;
             return Sent {
                 known: declared,
-                sent: [Message(0); 8],
+                sent: [Message(0); tables::SENT],
                 count: 0,
             };
         };
@@ -63,9 +68,9 @@ pub(crate) fn target_of(
     line: &[u8],
     f: Fields,
     whose: Controller,
-    messages: [MessageRow; 32],
+    messages: [MessageRow; tables::MESSAGES],
     message_count: usize,
-    states: [StateRow; 64],
+    states: [StateRow; tables::STATES],
     state_count: usize,
 ) -> Target
     requires { ⌜ FieldsAre (now line) f × (6 ≤ f .count) × (f .count ≤ 14) × («message_count» ≤ 32) × («state_count» ≤ 64) ⌝ }
@@ -77,7 +82,7 @@ pub(crate) fn target_of(
         return Target {
             known: false,
             next: State(0),
-            sent: [Message(0); 8],
+            sent: [Message(0); tables::SENT],
             count: 0,
         };
     };
@@ -86,7 +91,7 @@ pub(crate) fn target_of(
         return Target {
             known: false,
             next: State(0),
-            sent: [Message(0); 8],
+            sent: [Message(0); tables::SENT],
             count: 0,
         };
     }

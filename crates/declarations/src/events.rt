@@ -38,7 +38,13 @@ fn no_event(number: u8, nth: usize) -> EventLine
 }
 
 // Whether field i is the name of an event that was read.
-fn event_declared(line: &[u8], f: Fields, i: usize, events: [EventRow; 8], count: usize) -> bool
+fn event_declared(
+    line: &[u8],
+    f: Fields,
+    i: usize,
+    events: [EventRow; tables::EVENTS],
+    count: usize,
+) -> bool
     requires { ⌜ FieldsAre (now line) f × (i < f .count) × (count ≤ 8) ⌝ }
     ensures { λ r. ⌜ r ≡ eventDeclared events count (field (split 9 (now (line .entry))) i) ⌝ }
 {
@@ -54,9 +60,9 @@ pub fn event_line(
     line: &[u8],
     f: Fields,
     nth: usize,
-    messages: [MessageRow; 32],
+    messages: [MessageRow; tables::MESSAGES],
     message_count: usize,
-    events: [EventRow; 8],
+    events: [EventRow; tables::EVENTS],
     count: usize,
 ) -> EventLine
     requires { ⌜ FieldsAre (now line) f × (says (split 9 (now line)) 0 eventWord ≡ true) × («message_count» ≤ 32) × (count ≤ 8) ⌝ }
@@ -74,7 +80,7 @@ pub fn event_line(
     if event_declared(line, f, 1, events, count) {
         return no_event(papers::TWICE, nth);
     }
-    if 8 <= count {
+    if tables::EVENTS <= count {
         return no_event(papers::FULL, nth);
     }
     let name = crate::named_fields::name_at(line, f, 1);

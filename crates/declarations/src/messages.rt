@@ -44,7 +44,7 @@ pub fn message_line(
     line: &[u8],
     f: Fields,
     nth: usize,
-    messages: [MessageRow; 32],
+    messages: [MessageRow; tables::MESSAGES],
     count: usize,
 ) -> MessageLine
     requires { ⌜ FieldsAre (now line) f × (says (split 9 (now line)) 0 messageWord ≡ true) × (count ≤ 32) ⌝ }
@@ -59,7 +59,7 @@ pub fn message_line(
     if crate::named_fields::message_declared(line, f, 1, messages, count) {
         return no_message(papers::TWICE, nth);
     }
-    if 32 <= count {
+    if tables::MESSAGES <= count {
         return no_message(papers::FULL, nth);
     }
     let name = crate::named_fields::name_at(line, f, 1);

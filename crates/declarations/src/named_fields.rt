@@ -35,7 +35,7 @@ pub(crate) fn message_declared(
     line: &[u8],
     f: Fields,
     i: usize,
-    messages: [MessageRow; 32],
+    messages: [MessageRow; tables::MESSAGES],
     count: usize,
 ) -> bool
     requires { ⌜ FieldsAre (now line) f × (i < f .count) × (count ≤ 32) ⌝ }

@@ -49,7 +49,7 @@ fn state_declared(
     f: Fields,
     i: usize,
     controller: Controller,
-    states: [StateRow; 64],
+    states: [StateRow; tables::STATES],
     count: usize,
 ) -> bool
     requires { ⌜ FieldsAre (now line) f × (i < f .count) × (count ≤ 64) ⌝ }
@@ -67,7 +67,7 @@ pub fn state_line(
     line: &[u8],
     f: Fields,
     nth: usize,
-    states: [StateRow; 64],
+    states: [StateRow; tables::STATES],
     count: usize,
 ) -> StateLine
     requires { ⌜ FieldsAre (now line) f × (says (split 9 (now line)) 0 stateWord ≡ true) × (count ≤ 64) ⌝ }
@@ -82,7 +82,7 @@ pub fn state_line(
     if state_declared(line, f, 2, controller, states, count) {
         return no_state(papers::TWICE, nth);
     }
-    if 64 <= count {
+    if tables::STATES <= count {
         return no_state(papers::FULL, nth);
     }
     let name = crate::named_fields::name_at(line, f, 2);

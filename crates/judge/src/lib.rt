@@ -12,7 +12,7 @@ use rules::Network;
 use tables::Tables;
 
 // The judgement of a mapping for a protocol's tables, written to the output if there is room for it.
-fn judge_tables(t: Tables, networks: [Network; 32], out: &mut [u8]) -> Answer
+fn judge_tables(t: Tables, networks: [Network; tables::MESSAGES], out: &mut [u8]) -> Answer
     requires { ⌜ TablesOk t × (0 < t .«message_count») ⌝ }
     ensures { λ r. ⌜ JudgementWritten t (mappingOf networks) (now (out .entry)) (now (out .exit)) r ⌝ }
 {

@@ -39,7 +39,7 @@ pub(crate) fn put_verdict(out: &mut [u8], verdict: &[u8]) -> usize
 }
 
 // The name of a message.
-fn message_name(messages: [MessageRow; 32], m: Message) -> Name
+fn message_name(messages: [MessageRow; tables::MESSAGES], m: Message) -> Name
     requires { ⌜ m .0 < 32 ⌝ }
     ensures { λ r. ⌜ nameText r ≡ nameAt messages (m .0) ⌝ }
 {
@@ -60,10 +60,10 @@ fn next_place(i: usize, count: usize) -> usize
 
 // The step at place i of the shown cycle.
 fn step_at(
-    messages: [MessageRow; 32],
-    cycle: [Message; 32],
+    messages: [MessageRow; tables::MESSAGES],
+    cycle: [Message; tables::MESSAGES],
     count: usize,
-    waits: [u32; 32],
+    waits: [u32; tables::MESSAGES],
     i: usize,
 ) -> NamedStep
     requires { ⌜ GivenWalk count cycle × (i < count) ⌝ }
@@ -81,10 +81,10 @@ fn step_at(
 
 // How many bytes the listing of an unfit mapping has.
 fn unfit_length(
-    messages: [MessageRow; 32],
-    cycle: [Message; 32],
+    messages: [MessageRow; tables::MESSAGES],
+    cycle: [Message; tables::MESSAGES],
     count: usize,
-    waits: [u32; 32],
+    waits: [u32; tables::MESSAGES],
 ) -> usize
     requires { ⌜ GivenWalk count cycle ⌝ }
     ensures { λ r. ⌜ r ≡ length (unfitText messages (walkSteps waits count cycle)) ⌝ }
@@ -102,10 +102,10 @@ fn unfit_length(
 fn more_steps(
     out: &mut [u8],
     start: usize,
-    messages: [MessageRow; 32],
-    cycle: [Message; 32],
+    messages: [MessageRow; tables::MESSAGES],
+    cycle: [Message; tables::MESSAGES],
     count: usize,
-    waits: [u32; 32],
+    waits: [u32; tables::MESSAGES],
 ) -> usize
     requires { ⌜ GivenWalk count cycle × (start + length (stepTexts messages (walkSteps waits count cycle)) ≤ length (now out)) ⌝ }
     ensures { λ r. ⌜ Pasted (stepTexts messages (walkSteps waits count cycle)) start (now (out .entry)) (now (out .exit)) r ⌝ }
@@ -122,10 +122,10 @@ fn more_steps(
 
 // The listing of an unfit mapping, if there is room for it: the steps of the shown cycle. The rows of waits tell each step's word.
 pub fn unfit_listing(
-    messages: [MessageRow; 32],
-    cycle: [Message; 32],
+    messages: [MessageRow; tables::MESSAGES],
+    cycle: [Message; tables::MESSAGES],
     count: usize,
-    waits: [u32; 32],
+    waits: [u32; tables::MESSAGES],
     out: &mut [u8],
 ) -> Answer
     requires { ⌜ GivenWalk count cycle ⌝ }

@@ -16,7 +16,7 @@ use tables::MessageRow;
 // What reading a mapping gives: the network of each message, or why and where it is refused.
 pub struct Mapped {
     pub refusal: Refusal,
-    pub networks: [Network; 32],
+    pub networks: [Network; tables::MESSAGES],
 }
 
 // A mapping that is refused has no networks.
@@ -25,17 +25,22 @@ fn refuse(why: Refusal) -> Mapped
 {
     Mapped {
         refusal: why,
-        networks: [Network(0); 32],
+        networks: [Network(0); tables::MESSAGES],
     }
 }
 
 // The map lines from a place on. The line of message i is line i + 2.
-fn map_lines(text: &[u8], from: usize, messages: [MessageRow; 32], count: usize) -> Mapped
+fn map_lines(
+    text: &[u8],
+    from: usize,
+    messages: [MessageRow; tables::MESSAGES],
+    count: usize,
+) -> Mapped
     requires { ⌜ Lined (now text) from × (count ≤ 32) ⌝ }
     ensures { λ r. ⌜ r ≡ readMaps 2 (lines (drop from (now (text .entry)))) (take count messages) [] ⌝ }
 {
     let n = text.len();
-    let mut networks = [Network(0); 32];
+    let mut networks = [Network(0); tables::MESSAGES];
     let mut at = from;
     let mut i = 0;
     while at < n {
@@ -77,7 +82,7 @@ fn map_lines(text: &[u8], from: usize, messages: [MessageRow; 32], count: usize)
 }
 
 // The networks of the messages, which are the first `count` rows, as the text gives them.
-pub fn read_mapping(text: &[u8], messages: [MessageRow; 32], count: usize) -> Mapped
+pub fn read_mapping(text: &[u8], messages: [MessageRow; tables::MESSAGES], count: usize) -> Mapped
     requires { ⌜ count ≤ 32 ⌝ }
     ensures { λ r. ⌜ r ≡ readMapping (take count messages) (now (text .entry)) ⌝ }
 {

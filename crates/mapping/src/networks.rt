@@ -4,6 +4,9 @@ ghost use mathlib.Core.List.{[], _∷_};
 ghost use Rattle.mapping.specs.networks.Networks.{foundNetwork};
 use rules::Network;
 
+// "Network is decimal, 0 to 31".
+const LAST_NETWORK: u8 = 31;
+
 pub enum FoundNetwork {
     Is(Network),
     Nothing,
@@ -39,7 +42,7 @@ fn two_digits(a: u8, b: u8) -> FoundNetwork
         return FoundNetwork::Nothing;
     }
     let v = (a - b'0') * 10 + (b - b'0');
-    if 31 < v {
+    if LAST_NETWORK < v {
         return FoundNetwork::Nothing;
     }
     FoundNetwork::Is(Network(v))

@@ -24,7 +24,11 @@ fn tabbed_length(name: Name) -> usize
 }
 
 // How many bytes the names of the messages have, each behind a tab.
-fn names_length(messages: [MessageRow; 32], cycle: [Message; 32], n: usize) -> usize
+fn names_length(
+    messages: [MessageRow; tables::MESSAGES],
+    cycle: [Message; tables::MESSAGES],
+    n: usize,
+) -> usize
     requires { ⌜ (n ≤ 32) × MessagesBelow n (firstMessages n cycle) ⌝ }
     ensures { λ r. ⌜ TextLength (namesText messages (firstMessages n cycle)) 800 r ⌝ }
 {
@@ -51,7 +55,12 @@ fn put_name(out: &mut [u8], name: Name) -> usize
 }
 
 // The names of these messages, each behind a tab.
-fn put_names(out: &mut [u8], messages: [MessageRow; 32], cycle: [Message; 32], n: usize) -> usize
+fn put_names(
+    out: &mut [u8],
+    messages: [MessageRow; tables::MESSAGES],
+    cycle: [Message; tables::MESSAGES],
+    n: usize,
+) -> usize
     requires { ⌜ (n ≤ 32) × MessagesBelow n (firstMessages n cycle) × (length (namesText messages (firstMessages n cycle)) ≤ length (now out)) ⌝ }
     ensures { λ r. ⌜ Wrote (namesText messages (firstMessages n cycle)) (now (out .entry)) (now (out .exit)) r ⌝ }
 {
@@ -69,7 +78,12 @@ fn put_names(out: &mut [u8], messages: [MessageRow; 32], cycle: [Message; 32], n
 }
 
 // The line of the shown cycle.
-fn put_cycle(out: &mut [u8], messages: [MessageRow; 32], cycle: [Message; 32], n: usize) -> usize
+fn put_cycle(
+    out: &mut [u8],
+    messages: [MessageRow; tables::MESSAGES],
+    cycle: [Message; tables::MESSAGES],
+    n: usize,
+) -> usize
     requires { ⌜ (n ≤ 32) × MessagesBelow n (firstMessages n cycle) × (length (cycleLine messages (firstMessages n cycle)) ≤ length (now out)) ⌝ }
     ensures { λ r. ⌜ Wrote (cycleLine messages (firstMessages n cycle)) (now (out .entry)) (now (out .exit)) r ⌝ }
 {
@@ -80,8 +94,8 @@ fn put_cycle(out: &mut [u8], messages: [MessageRow; 32], cycle: [Message; 32], n
 
 // Class 2: the listing of a shown cycle, if there is room for it.
 pub fn cycle_listing(
-    messages: [MessageRow; 32],
-    cycle: [Message; 32],
+    messages: [MessageRow; tables::MESSAGES],
+    cycle: [Message; tables::MESSAGES],
     n: usize,
     out: &mut [u8],
 ) -> Answer

@@ -47,7 +47,11 @@ fn map_length(name: Name, network: Network) -> usize
 }
 
 // How many bytes the lines of all messages have.
-fn maps_length(messages: [MessageRow; 32], n: usize, networks: [Network; 32]) -> usize
+fn maps_length(
+    messages: [MessageRow; tables::MESSAGES],
+    n: usize,
+    networks: [Network; tables::MESSAGES],
+) -> usize
     requires { ⌜ n ≤ 32 ⌝ }
     ensures { λ r. ⌜ TextLength (mapTexts (take n messages) (firstNetworks n networks)) 1056 r ⌝ }
 {
@@ -78,7 +82,12 @@ fn put_map(out: &mut [u8], name: Name, network: Network) -> usize
 }
 
 // A line for each message.
-fn put_maps(out: &mut [u8], messages: [MessageRow; 32], n: usize, networks: [Network; 32]) -> usize
+fn put_maps(
+    out: &mut [u8],
+    messages: [MessageRow; tables::MESSAGES],
+    n: usize,
+    networks: [Network; tables::MESSAGES],
+) -> usize
     requires { ⌜ (n ≤ 32) × (length (mapTexts (take n messages) (firstNetworks n networks)) ≤ length (now out)) ⌝ }
     ensures { λ r. ⌜ Wrote (mapTexts (take n messages) (firstNetworks n networks)) (now (out .entry)) (now (out .exit)) r ⌝ }
 {
@@ -96,9 +105,9 @@ fn put_maps(out: &mut [u8], messages: [MessageRow; 32], n: usize, networks: [Net
 
 // Class 3: the listing of a plan, if there is room for it.
 pub fn map_listing(
-    messages: [MessageRow; 32],
+    messages: [MessageRow; tables::MESSAGES],
     n: usize,
-    networks: [Network; 32],
+    networks: [Network; tables::MESSAGES],
     count: usize,
     out: &mut [u8],
 ) -> Answer

@@ -24,16 +24,6 @@ impl Message {
     }
 }
 
-impl Network {
-    // The network's place in a table that has a row for each network.
-    pub fn index(self) -> usize
-        ensures { λ r. ⌜ r ≡ self .0 ⌝ }
-    {
-        let network = self.0;
-        network as usize
-    }
-}
-
 impl State {
     // The state's place in a table that has a row for each state.
     pub fn index(self) -> usize
@@ -41,15 +31,5 @@ impl State {
     {
         let state = self.0;
         state as usize
-    }
-}
-
-impl Event {
-    // The event's place in a table that has a row for each event.
-    pub fn index(self) -> usize
-        ensures { λ r. ⌜ r ≡ self .0 ⌝ }
-    {
-        let event = self.0;
-        event as usize
     }
 }

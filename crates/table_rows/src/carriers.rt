@@ -24,7 +24,7 @@ fn carriers(d: Cell) -> u32
 }
 
 // Rule 2 at one cell: the rows with the carriers of d, if it enters a state.
-fn with_carriers(rows: [u32; 64], d: Cell) -> [u32; 64]
+fn with_carriers(rows: [u32; tables::STATES], d: Cell) -> [u32; tables::STATES]
     requires { ⌜ CellOk 32 8 64 d ⌝ }
     ensures { λ r. ⌜ Adds (CellCarries (asRuleCell d)) rows r ⌝ }
 {
@@ -45,12 +45,12 @@ fn with_carriers(rows: [u32; 64], d: Cell) -> [u32; 64]
 }
 
 // Rule 2: which messages carry to which state.
-pub(crate) fn carrier_rows(t: Tables) -> [u32; 64]
+pub(crate) fn carrier_rows(t: Tables) -> [u32; tables::STATES]
     requires { ⌜ TablesOk t ⌝ }
     ensures { λ r. ⌜ CarrierRows t r ⌝ }
 {
     let n = t.cell_count;
-    let mut rows = [0u32; 64];
+    let mut rows = [0u32; tables::STATES];
     let mut i = 0;
     while i < n {
         let entering = t.cells[i];

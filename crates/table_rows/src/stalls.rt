@@ -24,13 +24,13 @@ fn column(row: u32, who: u32, a: Message, b: Message) -> u32
 }
 
 // The rows with b in the row of each a among who.
-fn with_column(rows: [u32; 32], who: u32, b: Message) -> [u32; 32]
+fn with_column(rows: [u32; tables::MESSAGES], who: u32, b: Message) -> [u32; tables::MESSAGES]
     requires { ⌜ b .0 < 32 ⌝ }
     ensures { λ r. ⌜ Adds (Column who (b .0)) rows r ⌝ }
 {
     let mut next = rows;
     let mut i = 0;
-    while i < 32 {
+    while i < tables::MESSAGES {
         let a = Message(i as u8);
         next[i] = column(next[i], who, a, b);
         i += 1;
@@ -39,7 +39,11 @@ fn with_column(rows: [u32; 32], who: u32, b: Message) -> [u32; 32]
 }
 
 // Rule 3 at one cell: the rows with who stalls d's message, if d stalls one.
-fn with_stalls(rows: [u32; 32], carriers: [u32; 64], d: Cell) -> [u32; 32]
+fn with_stalls(
+    rows: [u32; tables::MESSAGES],
+    carriers: [u32; tables::STATES],
+    d: Cell,
+) -> [u32; tables::MESSAGES]
     requires { ⌜ CellOk 32 8 64 d ⌝ }
     ensures { λ r. ⌜ Adds (CellStalls (Among carriers) (asRuleCell d)) rows r ⌝ }
 {
@@ -58,13 +62,13 @@ fn with_stalls(rows: [u32; 32], carriers: [u32; 64], d: Cell) -> [u32; 32]
 }
 
 // Rule 3: which message stalls which.
-pub fn stalls_rows(t: Tables) -> [u32; 32]
+pub fn stalls_rows(t: Tables) -> [u32; tables::MESSAGES]
     requires { ⌜ TablesOk t ⌝ }
     ensures { λ r. ⌜ StallsRows t r ⌝ }
 {
     let carriers = crate::carriers::carrier_rows(t);
     let n = t.cell_count;
-    let mut rows = [0u32; 32];
+    let mut rows = [0u32; tables::MESSAGES];
     let mut i = 0;
     while i < n {
         let stalling = t.cells[i];

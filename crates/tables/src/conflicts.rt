@@ -49,7 +49,7 @@ fn clash(d: Cell, c: Cell) -> bool
 }
 
 // Whether one of the first n cells clashes with c.
-pub fn any_clash(cells: [Cell; 512], n: usize, c: Cell) -> bool
+pub fn any_clash(cells: [Cell; crate::CELLS], n: usize, c: Cell) -> bool
     requires { ⌜ n ≤ 512 ⌝ }
     ensures { λ r. ⌜ r ≡ anyClash c (take n cells) ⌝ }
 {

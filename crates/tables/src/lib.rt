@@ -9,6 +9,17 @@ use rules::Message;
 use rules::State;
 use text::Name;
 
+// "Most allowed": so many of each, and so many messages sent from one cell. A table has a row for each that there may be.
+pub const MESSAGES: usize = 32;
+
+pub const EVENTS: usize = 8;
+
+pub const STATES: usize = 64;
+
+pub const CELLS: usize = 512;
+
+pub const SENT: usize = 8;
+
 // What a message is for. It is stored and has no effect on the relations.
 pub enum Kind {
     Req,
@@ -46,7 +57,7 @@ pub struct Cell {
     pub state: State,
     pub trigger: Trigger,
     pub outcome: Outcome,
-    pub sent: [Message; 8],
+    pub sent: [Message; SENT],
     pub sent_count: u8,
 }
 
@@ -67,10 +78,10 @@ pub struct StateRow {
 
 // All there is to know of a protocol. What is past a count is as cleared.
 pub struct Tables {
-    pub messages: [MessageRow; 32],
-    pub events: [EventRow; 8],
-    pub states: [StateRow; 64],
-    pub cells: [Cell; 512],
+    pub messages: [MessageRow; MESSAGES],
+    pub events: [EventRow; EVENTS],
+    pub states: [StateRow; STATES],
+    pub cells: [Cell; CELLS],
     pub message_count: usize,
     pub event_count: usize,
     pub state_count: usize,
@@ -85,7 +96,7 @@ pub fn no_cell() -> Cell
         state: State(0),
         trigger: Trigger::Message(Message(0)),
         outcome: Outcome::Stall,
-        sent: [Message(0); 8],
+        sent: [Message(0); SENT],
         sent_count: 0,
     }
 }
@@ -106,10 +117,10 @@ pub fn cleared() -> Tables
         stability: Stability::Stable,
     };
     let cell = no_cell();
-    let messages = [message; 32];
-    let events = [event; 8];
-    let states = [state; 64];
-    let cells = [cell; 512];
+    let messages = [message; MESSAGES];
+    let events = [event; EVENTS];
+    let states = [state; STATES];
+    let cells = [cell; CELLS];
     Tables {
         messages: messages,
         events: events,

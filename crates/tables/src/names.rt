@@ -28,7 +28,11 @@ pub enum FoundState {
 }
 
 // The message with this name, among the first rows.
-pub fn message_named(messages: [MessageRow; 32], count: usize, part: &[u8]) -> FoundMessage
+pub fn message_named(
+    messages: [MessageRow; crate::MESSAGES],
+    count: usize,
+    part: &[u8],
+) -> FoundMessage
     requires { ⌜ count ≤ 32 ⌝ }
     ensures { λ r. ⌜ r ≡ foundMessage (firstIndex (messageNamed (now (part .entry))) (take count messages)) count ⌝ }
 {
@@ -45,7 +49,7 @@ pub fn message_named(messages: [MessageRow; 32], count: usize, part: &[u8]) -> F
 }
 
 // The event with this name, among the first rows.
-pub fn event_named(events: [EventRow; 8], count: usize, part: &[u8]) -> FoundEvent
+pub fn event_named(events: [EventRow; crate::EVENTS], count: usize, part: &[u8]) -> FoundEvent
     requires { ⌜ count ≤ 8 ⌝ }
     ensures { λ r. ⌜ r ≡ foundEvent (firstIndex (eventNamed (now (part .entry))) (take count events)) count ⌝ }
 {
@@ -93,7 +97,7 @@ fn state_has(row: StateRow, controller: Controller, part: &[u8]) -> bool
 
 // The controller's state with this name, among the first rows.
 pub fn state_named(
-    states: [StateRow; 64],
+    states: [StateRow; crate::STATES],
     count: usize,
     controller: Controller,
     part: &[u8],

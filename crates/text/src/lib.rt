@@ -11,17 +11,23 @@ ghost use lib.ListN.{length};
 ghost use Rattle.text.specs.Parts.{sameText, place, howMany};
 ghost use Rattle.text.specs.Written.{Wrote};
 
+// The most bytes of a name.
+pub const NAME_BYTES: usize = 24;
+
+// The most fields of a line that are looked at: one more than the longest record has, so that a line that is too long is told.
+pub const FIELDS: usize = 15;
+
 // A declared name: its bytes, zeros behind them, and how many bytes it has.
 pub struct Name {
-    pub bytes: [u8; 24],
+    pub bytes: [u8; NAME_BYTES],
     pub length: u8,
 }
 
-// The fields of a line, at most fifteen of them: where each starts and ends. Past the count there are zeros.
+// The fields of a line, at most so many: where each starts and ends. Past the count there are zeros.
 pub struct Fields {
     pub count: usize,
-    pub from: [usize; 15],
-    pub to: [usize; 15],
+    pub from: [usize; FIELDS],
+    pub to: [usize; FIELDS],
 }
 
 // Whether two texts hold the same bytes.

@@ -9,13 +9,13 @@ pub fn fields_of(text: &[u8], from: usize, to: usize) -> crate::Fields
     requires { ⌜ (from ≤ to) × (to ≤ length (now text)) ⌝ }
     ensures { λ r. ⌜ r ≡ fieldsOf (now (text .entry)) from to ⌝ }
 {
-    let mut starts = [0usize; 15];
-    let mut ends = [0usize; 15];
+    let mut starts = [0usize; crate::FIELDS];
+    let mut ends = [0usize; crate::FIELDS];
     let mut e = crate::find(text, 9, from, to);
     starts[0] = from;
     ends[0] = e;
     let mut n = 1;
-    while n < 15 {
+    while n < crate::FIELDS {
         if to <= e {
             return crate::Fields {
                 count: n,

@@ -11,7 +11,7 @@ pub fn no_name() -> crate::Name
     ensures { λ r. ⌜ r ≡ nameOf [] ⌝ }
 {
     crate::Name {
-        bytes: [0u8; 24],
+        bytes: [0u8; crate::NAME_BYTES],
         length: 0,
     }
 }
@@ -21,7 +21,7 @@ pub fn name_of(part: &[u8]) -> crate::Name
     requires { ⌜ length (now part) ≤ 24 ⌝ }
     ensures { λ r. ⌜ r ≡ nameOf (now (part .entry)) ⌝ }
 {
-    let mut bytes = [0u8; 24];
+    let mut bytes = [0u8; crate::NAME_BYTES];
     let n = crate::put(&mut bytes, part);
     crate::Name {
         bytes: bytes,
@@ -34,8 +34,8 @@ pub fn name_length(name: crate::Name) -> usize
     ensures { λ r. ⌜ r ≡ length (nameText name) ⌝ }
 {
     let n = name.length as usize;
-    if 24 < n {
-        return 24;
+    if crate::NAME_BYTES < n {
+        return crate::NAME_BYTES;
     }
     n
 }
@@ -71,7 +71,7 @@ pub fn is_name(part: &[u8]) -> bool
     if part.len() < 1 {
         return false;
     }
-    if 24 < part.len() {
+    if crate::NAME_BYTES < part.len() {
         return false;
     }
     let mut i = 0;

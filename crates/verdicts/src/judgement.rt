@@ -9,11 +9,15 @@ use rules::Network;
 use tables::Tables;
 
 // The judgement that the rows give: the shown cycle begins with a waits step.
-fn judge_of_rows(waits: [u32; 32], steps: [u32; 32], n: usize) -> JudgementFound
+fn judge_of_rows(
+    waits: [u32; tables::MESSAGES],
+    steps: [u32; tables::MESSAGES],
+    n: usize,
+) -> JudgementFound
     requires { ⌜ (n ≤ 32) × Within n waits steps ⌝ }
     ensures { λ r. ⌜ JudgementOfRows waits steps n r ⌝ }
 {
-    let mut numbers = [0u8; 32];
+    let mut numbers = [0u8; tables::MESSAGES];
     let cycle_length = walks::cycles::cycle(&waits, &steps, n, &mut numbers);
     let cycle = crate::messages_of(numbers);
     JudgementFound {
@@ -24,7 +28,7 @@ fn judge_of_rows(waits: [u32; 32], steps: [u32; 32], n: usize) -> JudgementFound
 }
 
 // The judgement of a mapping, by rule 6.
-pub fn judge_of(t: Tables, networks: [Network; 32]) -> JudgementFound
+pub fn judge_of(t: Tables, networks: [Network; tables::MESSAGES]) -> JudgementFound
     requires { ⌜ TablesOk t × (0 < t .«message_count») ⌝ }
     ensures { λ r. ⌜ JudgementIs (relationsOfTables t) (mappingOf networks) r ⌝ }
 {

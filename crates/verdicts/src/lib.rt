@@ -15,25 +15,25 @@ use tables::Tables;
 // A plan: the least count and each message's network; or count 0 and the shown cycle.
 pub struct PlanFound {
     pub count: usize,
-    pub networks: [Network; 32],
+    pub networks: [Network; tables::MESSAGES],
     pub cycle_length: usize,
-    pub cycle: [Message; 32],
+    pub cycle: [Message; tables::MESSAGES],
 }
 
 // A judgement: the shown cycle, of length 0 where the mapping is fit, and the rows of waits.
 pub struct JudgementFound {
     pub cycle_length: usize,
-    pub cycle: [Message; 32],
-    pub waits: [u32; 32],
+    pub cycle: [Message; tables::MESSAGES],
+    pub waits: [u32; tables::MESSAGES],
 }
 
 // The heights that were written, as networks.
-fn networks_of(heights: [u8; 32]) -> [Network; 32]
+fn networks_of(heights: [u8; tables::MESSAGES]) -> [Network; tables::MESSAGES]
     ensures { λ r. ⌜ r ≡ map asNetwork heights ⌝ }
 {
-    let mut networks = [Network(0); 32];
+    let mut networks = [Network(0); tables::MESSAGES];
     let mut i = 0;
-    while i < 32 {
+    while i < tables::MESSAGES {
         let height = heights[i];
         networks[i] = Network(height);
         i += 1;
@@ -42,12 +42,12 @@ fn networks_of(heights: [u8; 32]) -> [Network; 32]
 }
 
 // The numbers of a cycle that were written, as messages.
-pub(crate) fn messages_of(numbers: [u8; 32]) -> [Message; 32]
+pub(crate) fn messages_of(numbers: [u8; tables::MESSAGES]) -> [Message; tables::MESSAGES]
     ensures { λ r. ⌜ r ≡ map asMessage numbers ⌝ }
 {
-    let mut messages = [Message(0); 32];
+    let mut messages = [Message(0); tables::MESSAGES];
     let mut i = 0;
-    while i < 32 {
+    while i < tables::MESSAGES {
         let number = numbers[i];
         messages[i] = Message(number);
         i += 1;
@@ -56,40 +56,40 @@ pub(crate) fn messages_of(numbers: [u8; 32]) -> [Message; 32]
 }
 
 // A plan of class 3: there is no cycle.
-fn ranked_plan(count: usize, networks: [Network; 32]) -> PlanFound
+fn ranked_plan(count: usize, networks: [Network; tables::MESSAGES]) -> PlanFound
     ensures { λ r. ⌜ r ≡ rankedPlan count networks ⌝ }
 {
     PlanFound {
         count: count,
         networks: networks,
         cycle_length: 0,
-        cycle: [Message(0); 32],
+        cycle: [Message(0); tables::MESSAGES],
     }
 }
 
 // A plan of class 2: the least count is 0, and there are no networks.
-fn cycle_plan(cycle_length: usize, cycle: [Message; 32]) -> PlanFound
+fn cycle_plan(cycle_length: usize, cycle: [Message; tables::MESSAGES]) -> PlanFound
     ensures { λ r. ⌜ r ≡ cyclePlan «cycle_length» cycle ⌝ }
 {
     PlanFound {
         count: 0,
-        networks: [Network(0); 32],
+        networks: [Network(0); tables::MESSAGES],
         cycle_length: cycle_length,
         cycle: cycle,
     }
 }
 
 // The plan of the rows of waits. Heights are networks, and the numbers of a cycle are messages: each is written to bytes of its own.
-fn plan_of_rows(waits: [u32; 32], n: usize) -> PlanFound
+fn plan_of_rows(waits: [u32; tables::MESSAGES], n: usize) -> PlanFound
     requires { ⌜ (0 < n) × (n ≤ 32) ⌝ }
     ensures { λ r. ⌜ PlanOfRows waits n r ⌝ }
 {
-    let mut heights = [0u8; 32];
+    let mut heights = [0u8; tables::MESSAGES];
     let count = walks::heights::heights(&waits, n, &mut heights);
     if count != 0 {
         return ranked_plan(count, networks_of(heights));
     }
-    let mut numbers = [0u8; 32];
+    let mut numbers = [0u8; tables::MESSAGES];
     let cycle_length = walks::cycles::cycle(&waits, &waits, n, &mut numbers);
     cycle_plan(cycle_length, messages_of(numbers))
 }

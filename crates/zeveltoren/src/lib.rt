@@ -6,8 +6,8 @@ ghost use Rattle.zeveltoren.specs.Packed.{PackedRelations, PackedCheck, 
 pub extern "C" fn vn_relations(n: u64, causes: &[u8], stalls: &[u8], out: &mut [u8]) -> u64
     ensures { λ r. ⌜ PackedRelations n (now (causes .entry)) (now (stalls .entry)) (now (out .entry)) (now (out .exit)) r ⌝ }
 {
-    let a = relations::relations(n as usize, causes, stalls, out);
-    relations::call::packed(a)
+    let told = relations::relations(n as usize, causes, stalls, out);
+    relations::call::packed(told)
 }
 
 // Whether a protocol text is accepted, and else the refusal's number and line.
@@ -16,8 +16,8 @@ pub extern "C" fn vn_check_protocol(text: &[u8]) -> u64
     ensures { λ r. ⌜ PackedCheck (now (text .entry)) r ⌝ }
 {
     let r = protocol::read_protocol(text);
-    let a = answers::refused(r.refusal, 0);
-    answers::packed(a)
+    let checked = answers::refused(r.refusal, 0);
+    answers::packed(checked)
 }
 
 // The plan of a protocol text.
@@ -25,8 +25,8 @@ pub extern "C" fn vn_check_protocol(text: &[u8]) -> u64
 pub extern "C" fn vn_plan_text(text: &[u8], out: &mut [u8]) -> u64
     ensures { λ r. ⌜ PackedPlan (now (text .entry)) (now (out .entry)) (now (out .exit)) r ⌝ }
 {
-    let a = plan::plan(text, out);
-    answers::packed(a)
+    let planned = plan::plan(text, out);
+    answers::packed(planned)
 }
 
 // The judgement of a mapping text for a protocol text.
@@ -34,6 +34,6 @@ pub extern "C" fn vn_plan_text(text: &[u8], out: &mut [u8]) -> u64
 pub extern "C" fn vn_judge_texts(protocol: &[u8], mapping: &[u8], out: &mut [u8]) -> u64
     ensures { λ r. ⌜ PackedJudgement (now (protocol .entry)) (now (mapping .entry)) (now (out .entry)) (now (out .exit)) r ⌝ }
 {
-    let a = judge::judge(protocol, mapping, out);
-    answers::packed(a)
+    let judged = judge::judge(protocol, mapping, out);
+    answers::packed(judged)
 }
