@@ -1,8 +1,7 @@
 -- The call: its refusals, its answer, and how large its numbers are.
 use Prim.Native.Nat.{ℕ, zero, suc, _*_, _<_, _≤_}
 use mathlib.Core.Path.{_≡_, refl, sym, subst, ap, _∙_}
-use mathlib.Core.Bool.{Bool, true, false}
-use mathlib.Core.Logic.{_⊎_, inl, inr, _↔_, _≢_}
+use mathlib.Core.Logic.{_⊎_, inl, inr, _≢_}
 use mathlib.Core.List.{List}
 use native.Mathlib.Decide.{ℕ-discrete, decLe}
 use native.Mathlib.Omega.{arith}
@@ -20,10 +19,6 @@ use Rattle.relations.specs.call.Packed.{RelationsSmall, packedRelations,
 use Rattle.relations.specs.call.Plans.{TablesPlan, Refusal}
 use Rattle.relations.specs.declared.call.RelationsAnswer.{RelationsAnswer}
 use Rattle.waits.proofs.Waiting.{counts-le}
-
--- a flag that is down
-pub flag-no : (P : Type 0) (t : Bool) → (t ≡ true) ↔ P → t ≡ false → ¬ P
-flag-no P t f e p = let u = f .1 p in let z : _≡_ {A = ℕ} 0 1 = cc in omega arith
 
 -- ---- a count that is right
 

@@ -1,18 +1,15 @@
 -- The tables' rows: read, and searched for stray bits.
 use Prim.Native.Nat.{ℕ, zero, suc, _+_, _*_, _<_, _≤_, _/_, _^_}
 use mathlib.Core.Path.{_≡_, refl, sym, _∙_}
-use mathlib.Core.Bool.{true, false, not}
-use lib.Dec.{eqb}
-use borrow.Author.Tests.{eqb-false, ne-eqb, not-true}
-use mathlib.Core.Logic.{_⊎_, inl, inr, _↔_, _≢_}
+use mathlib.Core.Logic.{_⊎_, inl, inr}
 use mathlib.Core.List.{List, [], _∷_}
-use native.Mathlib.Decide.{ℕ-discrete, decLt}
+use native.Mathlib.Decide.{decLt}
 use native.Mathlib.Omega.{arith}
 use lib.ListN.{length, getD, set}
 use Rattle.rules.proofs.Search.{First, None, first-below}
 use Rattle.rows.specs.Rows.{Bit}
 use Rattle.rows.proofs.Bits.{bit?, bit-below, none-from, from-none}
-use Rattle.rows.proofs.Filling.{Filling, fill-step, fill-each, fill-kept}
+use Rattle.rows.proofs.FillingRows.{FillingRows, fill-step, fill-each, fill-kept}
 use Rattle.rows.proofs.Together.{Together}
 use Rattle.relations.specs.call.Call.{WrongCount}
 use Rattle.relations.specs.call.Tables.{rowsOf, rowAt, Loaded, Stray}
@@ -43,10 +40,10 @@ abbrev pub IsRow : List ℕ → ℕ → ℕ → Type 0
 IsRow table i r = r ≡ getD (rowsOf table) i 0
 
 module _ (n : ℕ) (table old : List ℕ) where
-  pub load-step : (rows : List ℕ) (i r : ℕ) → n ≤ length old → i < n → length table ≡ 4 * n → r ≡ rowAt table i → Filling (IsRow table) n old rows i → Filling (IsRow table) n old (set rows i r) (i + 1)
+  pub load-step : (rows : List ℕ) (i r : ℕ) → n ≤ length old → i < n → length table ≡ 4 * n → r ≡ rowAt table i → FillingRows (IsRow table) n old rows i → FillingRows (IsRow table) n old (set rows i r) (i + 1)
   load-step rows i r hn hi ht e f = fill-step (IsRow table) n old rows i r hn hi (e ∙ sym (rows-at table i (omega arith))) f
 
-  pub load-end : (rows : List ℕ) (i : ℕ) → n ≤ i → Filling (IsRow table) n old rows i → Loaded n table old rows
+  pub load-end : (rows : List ℕ) (i : ℕ) → n ≤ i → FillingRows (IsRow table) n old rows i → Loaded n table old rows
   load-end rows i h f = record { rows = fill-each (IsRow table) n old rows i h f; kept = fill-kept (IsRow table) n old rows i h f }
 
 -- ---- stray bits
@@ -86,21 +83,6 @@ tidy n rows f i j h b = go (decLt j n)
     go : Dec (j < n) → j < n
     go (yes l) = l
     go (no g) = absurd (f (record { i = i; j = j; i-below = h; j-above = omega arith; bit = b }))
-
--- ---- a flag that tells
-
-pub told-no : (P : Type 0) → ¬ P → (false ≡ true) ↔ P
-told-no P g = (λ e. absurd (let z : _≡_ {A = ℕ} 0 1 = cc in omega arith), λ p. absurd (g p))
-
-pub told-yes : (P : Type 0) → P → (true ≡ true) ↔ P
-told-yes P p = (λ e. p, λ q. refl)
-
-pub told-differ : (P : Type 0) (x y : ℕ) → (x ≢ y → P) → (x ≡ y → ¬ P) → (not (eqb x y) ≡ true) ↔ P
-told-differ P x y some none = (λ e. some (eqb-false x y (not-true (eqb x y) e)), λ p. go (ℕ-discrete x y) p)
-  where
-    go : Dec (x ≡ y) → P → not (eqb x y) ≡ true
-    go (yes e) p = absurd (none e p)
-    go (no g) p = rw (ne-eqb x y g) refl
 
 -- the count, and the tables' lengths, are right
 pub right-count : (n : ℕ) (causes stalls : List ℕ) → ¬ (n ≡ 0) → n ≤ 32 → length causes ≡ 4 * n → length stalls ≡ 4 * n → ¬ WrongCount n causes stalls

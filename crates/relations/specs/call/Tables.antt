@@ -4,7 +4,7 @@ use mathlib.Core.Path.{_≡_}
 use mathlib.Core.List.{List, [], _∷_}
 use lib.ListN.{getD}
 use Rattle.rows.specs.Rows.{Bit}
-use Rattle.rows.specs.Closure.{Kept}
+use Rattle.rows.specs.Closure.{KeptFrom}
 
 -- The number of 4 bytes, lowest first.
 abbrev pub word : ℕ → ℕ → ℕ → ℕ → ℕ
@@ -25,7 +25,7 @@ rowAt table i = word (getD table (4 * i) 0) (getD table (4 * i + 1) 0) (getD tab
 -- The first n rows are those of the table, and the others are as they were.
 pub record Loaded (n : ℕ) (table old new : List ℕ) : Type 0 where
   pub rows : (i : ℕ) → i < n → getD new i 0 ≡ getD (rowsOf table) i 0
-  pub kept : Kept n old new
+  pub kept : KeptFrom n old new
 
 -- "A bit at or above the count": bit j of one of the first n rows.
 pub record Stray (n : ℕ) (rows : List ℕ) : Type 0 where

@@ -11,7 +11,8 @@ use Rattle.rules.specs.Rules.{Mapping, Queues}
 use Rattle.rows.specs.Rows.{Bit, ofRows}
 use Rattle.rows.specs.Row.{With, Join}
 use Rattle.rows.proofs.Bits.{bit-zero}
-use Rattle.rows.proofs.Filling.{Filling, fill-each, fill-kept}
+use Rattle.rows.proofs.Told.{told-false}
+use Rattle.rows.proofs.FillingRows.{FillingRows, fill-each, fill-kept}
 use Rattle.rows.proofs.Together.{Together}
 use Rattle.waits.specs.steps.Steps.{StepsRows, StalledRow, Behind, WithBehind, QueuesRow}
 
@@ -35,10 +36,7 @@ module _ (φ : Mapping) (stalled m : ℕ) where
 
   -- the row of stalled messages does not have k
   pub behind-free : (k row : ℕ) (r : Bool) → (r ≡ true) ↔ Bit stalled k → r ≡ false → WithBehind φ stalled m k row row
-  behind-free k row r f e = behind-no k row (λ b. not-so (f .1 (b .bit)))
-    where
-      not-so : ¬ (r ≡ true)
-      not-so d = absurd (let z : _≡_ {A = ℕ} 0 1 = cc in omega arith)
+  behind-free k row r f e = behind-no k row (λ b. told-false (Bit stalled k) r f e (b .bit))
 
   -- the bits of the row are those below k behind which m queues
   pub record Queueing (k row : ℕ) : Type 0 where
@@ -75,7 +73,7 @@ steps-row waits φ stalled n m q r f j k = (
 )
 
 pub steps-end : (waits stalls : List ℕ) (φ : Mapping) (stalled n : ℕ) (rows : List ℕ) (i : ℕ) → n ≤ i → StalledRow stalls n stalled
-    → Filling (IsSteps waits φ stalled n) n (replicate 32 0) rows i → StepsRows waits stalls φ n rows
+    → FillingRows (IsSteps waits φ stalled n) n (replicate 32 0) rows i → StepsRows waits stalls φ n rows
 steps-end waits stalls φ stalled n rows i h s f = record { bits = bits; kept = fill-kept (IsSteps waits φ stalled n) n (replicate 32 0) rows i h f }
   where
     queues : (m k : ℕ) → m < n → (k < n) × Behind φ stalled m k → Queues (ofRows n [] stalls) φ m k

@@ -7,7 +7,7 @@ use lib.ListN.{getD, replicate}
 use Rattle.rules.specs.declared.Network.{Network}
 use Rattle.rules.specs.Rules.{Mapping, Queues}
 use Rattle.rows.specs.Rows.{Bit, ofRows}
-use Rattle.rows.specs.Closure.{Kept}
+use Rattle.rows.specs.Closure.{KeptFrom}
 
 -- The mapping that these networks give: message m is in the network at place m.
 abbrev pub mappingOf : List Network → Mapping
@@ -17,7 +17,7 @@ mappingOf networks m = getD networks m (record { 0 = 0 }) .0
 -- These are the first n of 32 rows, and the others are 0.
 pub record StepsRows (waits stalls : List ℕ) (φ : Mapping) (n : ℕ) (rows : List ℕ) : Type 0 where
   pub bits : (m k : ℕ) → m < n → Bit (getD rows m 0) k ↔ (Bit (getD waits m 0) k ⊎ Queues (ofRows n [] stalls) φ m k)
-  pub kept : Kept n (replicate 32 0) rows
+  pub kept : KeptFrom n (replicate 32 0) rows
 
 -- ---- what the loops gather
 

@@ -1,13 +1,13 @@
 -- `call::load` meets its contract. Assumes nothing.
 use Prim.Native.Nat.{_-_}
 use native.Mathlib.Omega.{arith}
-use Rattle.rows.proofs.Filling.{Filling, fill-start}
+use Rattle.rows.proofs.FillingRows.{FillingRows, fill-start}
 use Rattle.relations.proofs.call.Tables.{IsRow, load-step, load-end}
 use Rattle.relations.proofs.call.load.Statement.{statement}
 use Rattle.relations.proofs.call.load.Tie as tie
 
 abbrev Inv-loop : tie.InvT-loop
-Inv-loop table n rows₀ i₀ rows i = Filling (IsRow table) n rows₀ rows i
+Inv-loop table n rows₀ i₀ rows i = FillingRows (IsRow table) n rows₀ rows i
 
 abbrev μ-loop : tie.MeasureT-loop
 μ-loop table n rows₀ i₀ rows i = n - i

@@ -4,7 +4,8 @@ use native.Mathlib.Omega.{arith}
 use borrow.Author.Needs.{needs}
 use Rattle.relations.specs.call.Tables.{Stray, rowsOf}
 use Rattle.rows.proofs.Together.{Together, together-start, together-step}
-use Rattle.relations.proofs.call.Tables.{stray-full, stray-none, stray-some, told-no, told-differ, rows-at}
+use Rattle.rows.proofs.Told.{told-no, told-differ}
+use Rattle.relations.proofs.call.Tables.{stray-full, stray-none, stray-some, rows-at}
 use Rattle.relations.proofs.call.stray.Statement.{statement}
 use Rattle.relations.proofs.call.stray.Tie as tie
 

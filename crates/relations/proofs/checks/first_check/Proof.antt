@@ -3,18 +3,19 @@ use mathlib.Core.Logic.{inl, inr, ⊎-elim}
 use mathlib.Core.Path.{refl}
 use native.Mathlib.Omega.{arith}
 use borrow.Author.Needs.{needs}
+use Rattle.rows.proofs.Told.{told-false}
 use Rattle.relations.specs.call.Call.{WrongCount, StrayBit}
-use Rattle.relations.proofs.call.Calls.{flag-no, right}
+use Rattle.relations.proofs.call.Calls.{right}
 use Rattle.relations.proofs.checks.first_check.Statement.{statement}
 use Rattle.relations.proofs.checks.first_check.Tie as tie
 
 -- past the first test
 counted : (c : tie.Else1) → let a = c .before .before .before .before .args in ¬ WrongCount (a .n) (a .causes .now) (a .stalls .now)
-counted c = flag-no _ _ (c .before .wrong-count .ensures) (c .if1 .left)
+counted c = told-false _ _ (c .before .wrong-count .ensures) (c .if1 .left)
 
 -- past the third
 straight : (c : tie.Else3) → let a = c .before .before .before .before .before .before .before .before .args in ¬ StrayBit (a .n) (a .causes .now) (a .stalls .now)
-straight c = ⊎-elim (flag-no _ _ (c .before .before .before .stray .ensures) (c .before .before .if2 .left)) (flag-no _ _ (c .before .stray2 .ensures) (c .if3 .left))
+straight c = ⊎-elim (told-false _ _ (c .before .before .before .stray .ensures) (c .before .before .if2 .left)) (told-false _ _ (c .before .stray2 .ensures) (c .if3 .left))
 
 wrong-count-requires : tie.Need-wrong-count-requires
 wrong-count-requires c κs = search needs

@@ -4,7 +4,8 @@ use mathlib.Core.Logic.{inl, inr}
 use lib.ListN.{length}
 use borrow.Author.Needs.{needs}
 use Rattle.relations.specs.call.Call.{WrongCount}
-use Rattle.relations.proofs.call.Tables.{told-yes, told-differ, right-count}
+use Rattle.rows.proofs.Told.{told-yes, told-differ}
+use Rattle.relations.proofs.call.Tables.{right-count}
 use Rattle.relations.proofs.checks.wrong_count.Statement.{statement}
 use Rattle.relations.proofs.checks.wrong_count.Tie as tie
 

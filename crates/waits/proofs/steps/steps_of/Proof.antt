@@ -3,14 +3,14 @@ use Prim.Native.Nat.{_-_}
 use native.Mathlib.Omega.{arith}
 use lib.ListN.{replicate}
 use borrow.Author.Needs.{needs}
-use Rattle.rows.proofs.Filling.{Filling, fill-start, fill-step}
+use Rattle.rows.proofs.FillingRows.{FillingRows, fill-start, fill-step}
 use Rattle.waits.specs.steps.Steps.{mappingOf}
 use Rattle.waits.proofs.steps.Queueing.{IsSteps, steps-row, steps-end}
 use Rattle.waits.proofs.steps.steps_of.Statement.{statement}
 use Rattle.waits.proofs.steps.steps_of.Tie as tie
 
 abbrev Inv-loop : tie.InvT-loop
-Inv-loop networks n waits stalled steps₀ m₀ steps m = Filling (IsSteps waits (mappingOf networks) stalled n) n (replicate 32 0) steps m
+Inv-loop networks n waits stalled steps₀ m₀ steps m = FillingRows (IsSteps waits (mappingOf networks) stalled n) n (replicate 32 0) steps m
 
 abbrev μ-loop : tie.MeasureT-loop
 μ-loop networks n waits stalled steps₀ m₀ steps m = n - m
