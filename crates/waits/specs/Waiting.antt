@@ -3,7 +3,7 @@ use Prim.Native.Nat.{ℕ, _<_}
 use mathlib.Core.Path.{_≡_}
 use mathlib.Core.Logic.{_↔_}
 use mathlib.Core.List.{List}
-use lib.ListN.{length, getD}
+use lib.ListN.{length, getD, replicate}
 use Rattle.rules.specs.Rules.{Waits}
 use Rattle.rules.specs.Plan.{Pairs}
 use Rattle.rows.specs.Rows.{Bit, Rows, ofRows}
@@ -34,6 +34,10 @@ pub record Gathered (n : ℕ) (closed stalls old new : List ℕ) : Type 0 where
 pub record WaitsRows (n : ℕ) (causes stalls old new : List ℕ) : Type 0 where
   pub bits : (b c : ℕ) → b < n → Bit (getD new b 0) c ↔ Waits (ofRows n causes stalls) b c
   pub kept : KeptFrom n old new
+
+-- Rule 4 in 32 rows: those from n on are 0.
+abbrev pub WaitsOnly : ℕ → List ℕ → List ℕ → List ℕ → Type 0
+WaitsOnly n causes stalls rows = WaitsRows n causes stalls (replicate 32 0) rows
 
 -- The pairs of the first n rows are k.
 pub record RowPairs (n : ℕ) (rows : List ℕ) (k : ℕ) : Type 0 where

@@ -1,6 +1,6 @@
 -- Rule 5 in rows: what the loops over the messages keep.
 use Prim.Native.Nat.{ℕ, _+_, _<_, _≤_, _^_}
-use mathlib.Core.Path.{_≡_, sym, subst}
+use mathlib.Core.Path.{_≡_, sym, subst, ap, _∙_}
 use mathlib.Core.Bool.{Bool, true, false}
 use mathlib.Core.Logic.{_⊎_, inl, inr, ⊎-elim, _≢_, _↔_}
 use mathlib.Core.List.{List, []}
@@ -24,19 +24,25 @@ stalled-end stalls n all a h inv k = (
 )
 
 module _ (φ : Mapping) (stalled m : ℕ) where
-  pub behind-yes : (k row r : ℕ) → Behind φ stalled m k → With row k r → WithBehind φ stalled m k row r
-  behind-yes k row r h w j = (λ b. ⊎-elim inl (λ e. inr (e, h)) (w .bits j .0 b), λ x. w .bits j .1 (⊎-elim inl (λ y. inr (y .0)) x))
+  behind-added : (k row r : ℕ) → Behind φ stalled m k → With row k r → WithBehind φ stalled m k row r
+  behind-added k row r h w j = (λ b. ⊎-elim inl (λ e. inr (e, h)) (w .bits j .0 b), λ x. w .bits j .1 (⊎-elim inl (λ y. inr (y .0)) x))
 
   pub behind-no : (k row : ℕ) → ¬ Behind φ stalled m k → WithBehind φ stalled m k row row
   behind-no k row g j = (inl, ⊎-elim (λ b. b) (λ y. absurd (g (y .1))))
 
-  -- they are in two networks
-  pub behind-parted : (k row : ℕ) → φ m ≢ φ k → WithBehind φ stalled m k row row
-  behind-parted k row g = behind-no k row (λ b. g (b .share))
+  -- the places of m and k are `from` and `to`
+  module _ (k row from to : ℕ) (at-m : from ≡ m) (at-k : to ≡ k) where
+    -- they are in two networks
+    pub behind-parted : φ from ≢ φ to → WithBehind φ stalled m k row row
+    behind-parted g = behind-no k row (λ b. g (ap φ at-m ∙ b .share ∙ sym (ap φ at-k)))
 
-  -- the row of stalled messages does not have k
-  pub behind-free : (k row : ℕ) (r : Bool) → (r ≡ true) ↔ Bit stalled k → r ≡ false → WithBehind φ stalled m k row row
-  behind-free k row r f e = behind-no k row (λ b. told-false (Bit stalled k) r f e (b .bit))
+    -- the row of stalled messages does not have k
+    pub behind-free : (r : Bool) → (r ≡ true) ↔ Bit stalled to → r ≡ false → WithBehind φ stalled m k row row
+    behind-free r f e = behind-no k row (λ b. told-false (Bit stalled to) r f e (subst (Bit stalled) (sym at-k) (b .bit)))
+
+    pub behind-yes : (r : ℕ) → m ≢ k → φ from ≡ φ to → Bit stalled to → With row to r → WithBehind φ stalled m k row r
+    behind-yes r d e b w =
+        behind-added k row r (record { differ = d; share = sym (ap φ at-m) ∙ e ∙ ap φ at-k; bit = subst (Bit stalled) at-k b }) (subst (λ (i : ℕ). With row i r) at-k w)
 
   -- the bits of the row are those below k behind which m queues
   pub record Queueing (k row : ℕ) : Type 0 where
