@@ -9,7 +9,7 @@ use native.Mathlib.Omega.{arith}
 use lib.Bits.{bitAnd, bitOr, and-step, or-step, and-shr, or-shr}
 use lib.Dec.{lit<}
 use lib.Count.{ones, ones-step, trailingZeros, trailing-le, under}
-use lib.Pow.{shr-shr, pow-pos, pow-add, pow-lt, shl-shr, shl-exact, shr-le, ones-split, high, ones-lt}
+use lib.Pow.{shr-shr, pow-pos, pow-add, pow-lt, shl-shr, shl-exact, ones-split, high, ones-lt}
 use Rattle.rules.specs.Plan.{Counts}
 use Rattle.rules.proofs.Search.{First, None, first-below}
 use Rattle.rules.proofs.Same.{counts-map}
@@ -216,10 +216,6 @@ pub none-from : (row n j : ℕ) → row / 2 ^ n ≡ 0 → n ≤ j → ¬ Bit row
 none-from row n j e h b =
     let d = le-dest h in
     bit-zero (d .0) (subst (λ (r : ℕ). Bit r (d .0)) e (bit-shr row n (d .0) .1 (subst (Bit row) (sym (d .1)) b)))
-
--- there are none: it is 0
-pub from-none : (w row n : ℕ) → row < 2 ^ w → ((j : ℕ) → n ≤ j → ¬ Bit row j) → row / 2 ^ n ≡ 0
-from-none w row n h f = no-bits w (row / 2 ^ n) (omega (arith, shr-le row n)) (λ j l b. f (n + j) (omega arith) (bit-shr row n j .0 b))
 
 -- ---- counting bits
 

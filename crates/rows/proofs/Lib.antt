@@ -4,3 +4,4 @@ pub mod FillingRows
 pub mod Determined
 pub mod Together
 pub mod Told
+pub mod Strays

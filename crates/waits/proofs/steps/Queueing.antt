@@ -17,7 +17,7 @@ use Rattle.rows.proofs.Together.{Together}
 use Rattle.waits.specs.steps.Steps.{StepsRows, StalledRow, Behind, WithBehind, QueuesRow}
 
 -- all rows are taken in
-pub stalled-end : (stalls : List ℕ) (n all a : ℕ) → n ≤ a → Together stalls n all a → StalledRow stalls n all
+pub stalled-end : (stalls : List ℕ) (n all a : ℕ) → n ≤ a → Together 32 stalls n all a → StalledRow stalls n all
 stalled-end stalls n all a h inv k = (
   λ b. let t = inv .bits k .0 b in (t .0, omega (arith, t .1, inv .at-most), t .2),
   λ t. inv .bits k .1 (t .0, omega (arith, t .1), t .2),
@@ -42,7 +42,8 @@ module _ (φ : Mapping) (stalled m : ℕ) where
 
     pub behind-yes : (r : ℕ) → m ≢ k → φ from ≡ φ to → Bit stalled to → With row to r → WithBehind φ stalled m k row r
     behind-yes r d e b w =
-        behind-added k row r (record { differ = d; share = sym (ap φ at-m) ∙ e ∙ ap φ at-k; bit = subst (Bit stalled) at-k b }) (subst (λ (i : ℕ). With row i r) at-k w)
+        let h : Behind φ stalled m k = record { differ = d; share = sym (ap φ at-m) ∙ e ∙ ap φ at-k; bit = subst (Bit stalled) at-k b } in
+        behind-added k row r h (subst (λ (i : ℕ). With row i r) at-k w)
 
   -- the bits of the row are those below k behind which m queues
   pub record Queueing (k row : ℕ) : Type 0 where
