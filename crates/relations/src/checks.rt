@@ -1,40 +1,64 @@
-// The checks of the relations call, in the paper's order.
+// The checks of the relations call, in the paper's order, and its refusals.
 ghost use mathlib.Core.Path.{_≡_};
-ghost use mathlib.Core.Bool.{true};
-ghost use mathlib.Core.Logic.{_↔_};
-ghost use Rattle.relations.specs.call.Call.{WrongCount, FirstOf, checks};
+ghost use Rattle.relations.specs.checks.CallChecks.{wrongCount, relationsRefusal, refusedRelations};
+use crate::answer::RelationsAnswer;
+use crate::row_bytes::ROW_BYTES;
+use rows::WIDTH;
+
+const ROOM: u8 = 16;
+
+const COUNT: u8 = 17;
+
+const STRAY: u8 = 18;
 
 // Refusal 17: the count, or a table of another length than it asks.
 fn wrong_count(n: usize, causes: &[u8], stalls: &[u8]) -> bool
-    ensures { λ r. ⌜ (r ≡ true) ↔ WrongCount n (now (causes .entry)) (now (stalls .entry)) ⌝ }
+    ensures { λ r. ⌜ r ≡ wrongCount 4 32 n (now (causes .entry)) (now (stalls .entry)) ⌝ }
 {
     if n == 0 {
         return true;
     }
-    if 32 < n {
+    if WIDTH < n {
         return true;
     }
-    if causes.len() != 4 * n {
+    if causes.len() != ROW_BYTES * n {
         return true;
     }
-    stalls.len() != 4 * n
+    stalls.len() != ROW_BYTES * n
 }
 
-// The number of the first check that fails, 0 where none does.
+// The number of the first check that is given, 0 where none is.
 pub(crate) fn first_check(n: usize, causes: &[u8], stalls: &[u8], room: usize) -> u8
-    ensures { λ r. ⌜ FirstOf (checks n (now (causes .entry)) (now (stalls .entry)) room) r ⌝ }
+    ensures { λ r. ⌜ r ≡ relationsRefusal 4 32 n (now (causes .entry)) (now (stalls .entry)) room .number ⌝ }
 {
     if wrong_count(n, causes, stalls) {
-        return 17;
+        return COUNT;
     }
-    if crate::call::stray(causes, n) {
-        return 18;
+    if crate::row_bytes::stray(causes, n) {
+        return STRAY;
     }
-    if crate::call::stray(stalls, n) {
-        return 18;
+    if crate::row_bytes::stray(stalls, n) {
+        return STRAY;
     }
     if room < n {
-        return 16;
+        return ROOM;
     }
     0
+}
+
+// A refusal: every number 0 but its own and, for ROOM, the length needed.
+pub(crate) fn refusal(number: u8, n: usize) -> RelationsAnswer
+    ensures { λ r. ⌜ r ≡ refusedRelations number n ⌝ }
+{
+    let mut r = RelationsAnswer {
+        number: number,
+        length: 0,
+        networks: 0,
+        needed: 0,
+        pairs: 0,
+    };
+    if number == ROOM {
+        r.needed = n;
+    }
+    r
 }

@@ -6,15 +6,15 @@ use native.Mathlib.Nat.{div-self, div-eq-of-lt, pow-suc, add-comm, div-one, zero
 use native.Mathlib.Decide.{ℕ-discrete, decLe, decLt}
 use native.Mathlib.Numerals.{add-one}
 use native.Mathlib.Omega.{arith}
-use lib.Bits.{bitAnd, bitOr, and-step, or-step, and-shr, or-shr, and-mask, and-le-l}
+use lib.Bits.{bitAnd, bitOr, and-step, or-step, and-shr, or-shr}
 use lib.Dec.{lit<}
 use lib.Count.{ones, ones-step, trailingZeros, trailing-le, under}
-use lib.Pow.{shr-shr, pow-pos, pow-add, pow-lt, shl-shr, shl-exact, shr-le}
+use lib.Pow.{shr-shr, pow-pos, pow-add, pow-lt, shl-shr, shl-exact, ones-split, high, ones-lt}
 use Rattle.rules.specs.Plan.{Counts}
 use Rattle.rules.proofs.Search.{First, None, first-below}
 use Rattle.rules.proofs.Same.{counts-map}
 use Rattle.rows.specs.Rows.{Bit}
-use Rattle.rows.specs.Row.{Lowest, Ones, Without}
+use Rattle.rows.specs.Row.{Without, Meet, AllBelow, Lowest, Ones}
 use Rattle.rules.proofs.Cycle.{compare}
 
 pub bit? : (row j : ℕ) → Dec (Bit row j)
@@ -61,10 +61,6 @@ bit-and a b j = (λ h. (omega (arith, e, f), omega (arith, e, f)), λ t. omega (
 
     f : bitAnd x y ≡ bitAnd (x / 2) (y / 2) * 2 + min (x % 2) (y % 2)
     f = and-step x y
-
--- the test `row >> j & 1`
-pub bit-test : (row j : ℕ) → bitAnd (row / 2 ^ j) 1 ≡ row / 2 ^ j % 2
-bit-test row j = and-mask (row / 2 ^ j) 1
 
 -- no bit in 0
 pub bit-zero : (j : ℕ) → ¬ Bit 0 j
@@ -132,6 +128,14 @@ no-bits zero row h f = omega arith
 no-bits (suc w) row h f =
     let low : ¬ (row % 2 ≡ 1) = λ e. f 0 (omega arith) (omega (arith, div-one row)) in
     omega (arith, low, no-bits w (row / 2) (omega (arith, pow-suc 2 w)) (λ j k b. f (suc j) (omega arith) (bit-half row j .0 b)))
+
+-- a row that is not 0 has a bit
+pub some-bit : (w row : ℕ) → row < 2 ^ w → row ≢ 0 → (z : ℕ) × Bit row z
+some-bit w row h g = go (first-below (Bit row) (bit? row) w)
+  where
+    go : First (Bit row) w ⊎ None (Bit row) w → (z : ℕ) × Bit row z
+    go (inl t) = (t .0, t .2)
+    go (inr f) = absurd (g (no-bits w row h f))
 
 -- two rows of w bits with the same bits are equal
 pub same-bits : (w a b : ℕ) → a < 2 ^ w → b < 2 ^ w → ((j : ℕ) → j < w → Bit a j ↔ Bit b j) → a ≡ b
@@ -213,10 +217,6 @@ none-from row n j e h b =
     let d = le-dest h in
     bit-zero (d .0) (subst (λ (r : ℕ). Bit r (d .0)) e (bit-shr row n (d .0) .1 (subst (Bit row) (sym (d .1)) b)))
 
--- there are none: it is 0
-pub from-none : (w row n : ℕ) → row < 2 ^ w → ((j : ℕ) → n ≤ j → ¬ Bit row j) → row / 2 ^ n ≡ 0
-from-none w row n h f = no-bits w (row / 2 ^ n) (omega (arith, shr-le row n)) (λ j l b. f (n + j) (omega arith) (bit-shr row n j .0 b))
-
 -- ---- counting bits
 
 -- the lowest number counted first
@@ -254,30 +254,45 @@ ones-place w row h = record { counted = ones-counts w row h }
 
 -- ---- two rows meet: a common bit
 
-pub meet-yes : (w a b : ℕ) → a < 2 ^ w → ¬ (bitAnd a b ≡ 0) → (z : ℕ) × Bit a z × Bit b z
-meet-yes w a b h g = go (first-below (Bit (bitAnd a b)) (bit? (bitAnd a b)) w)
-  where
-    go : First (Bit (bitAnd a b)) w ⊎ None (Bit (bitAnd a b)) w → (z : ℕ) × Bit a z × Bit b z
-    go (inl t) = let r = bit-and a b (t .0) .0 (t .2) in (t .0, r .0, r .1)
-    go (inr f) = absurd (g (no-bits w (bitAnd a b) (omega (arith, and-le-l a b)) f))
+pub meet-some : (w a b r : ℕ) → r < 2 ^ w → Meet a b r → r ≢ 0 → (z : ℕ) × Bit a z × Bit b z
+meet-some w a b r h m g = let t = some-bit w r h g in let u = m .bits (t .0) .0 (t .1) in (t .0, u .0, u .1)
 
-pub meet-no : (a b : ℕ) → bitAnd a b ≡ 0 → (z : ℕ) → Bit a z → ¬ Bit b z
-meet-no a b e z x y = bit-zero z (subst (λ (r : ℕ). Bit r z) e (bit-and a b z .1 (x, y)))
+pub meet-none : (a b r : ℕ) → Meet a b r → r ≡ 0 → (z : ℕ) → Bit a z → ¬ Bit b z
+meet-none a b r m e z x y = bit-zero z (subst (λ (k : ℕ). Bit k z) e (m .bits z .1 (x, y)))
 
--- the lowest bit of a row that is not 0
-pub lowest : (w row : ℕ) → row < 2 ^ w → ¬ (row ≡ 0) → (trailingZeros w row < w) × Bit row (trailingZeros w row) × ((z : ℕ) → Bit row z → trailingZeros w row ≤ z)
-lowest w row h g = go (decLt (trailingZeros w row) w)
+-- ---- every bit below n
+
+ones-bits : (n j : ℕ) → Bit (2 ^ n - 1) j ↔ (j < n)
+ones-bits zero j = (λ b. absurd (bit-zero j b), λ h. absurd (omega arith))
+ones-bits (suc n) zero = (λ b. omega arith, λ h. omega (arith, pow-suc 2 n, pow-pos n, div-one (2 ^ suc n - 1)))
+ones-bits (suc n) (suc j) =
+    let e : (2 ^ suc n - 1) / 2 ≡ 2 ^ n - 1 = omega (arith, pow-suc 2 n, pow-pos n) in
+    let ih = ones-bits n j in
+    let half = bit-half (2 ^ suc n - 1) j in
+    (λ b. omega (arith, ih .0 (rw e at (half .1 b))), λ h. half .0 (rw e (ih .1 (omega arith))))
+
+ones-shifted : (w n : ℕ) → n ≤ w → (2 ^ w - 1) / 2 ^ (w - n) ≡ 2 ^ n - 1
+ones-shifted w n h =
+    let s : w ≡ n + (w - n) = omega arith in
+    let e : 2 ^ w - 1 ≡ (2 ^ n - 1) * 2 ^ (w - n) + (2 ^ (w - n) - 1) = ap (λ (k : ℕ). 2 ^ k - 1) s ∙ ones-split n (w - n) in
+    ap (λ (k : ℕ). k / 2 ^ (w - n)) e ∙ high (2 ^ n - 1) (w - n) (ones-lt (w - n))
+
+-- every bit of a row, shifted to the right until n are left
+pub all-below : (w n : ℕ) → n ≤ w → AllBelow n ((2 ^ w - 1) / 2 ^ (w - n))
+all-below w n h = record { bits = λ j. rw (ones-shifted w n h) (ones-bits n j) }
+
+-- ---- the lowest bit of a row that is not 0
+
+pub lowest-place : (w row : ℕ) → row < 2 ^ w → 0 < row → Lowest w row (trailingZeros w row)
+lowest-place w row h p = go (decLt (trailingZeros w row) w)
   where
-    go : Dec (trailingZeros w row < w) → (trailingZeros w row < w) × Bit row (trailingZeros w row) × ((z : ℕ) → Bit row z → trailingZeros w row ≤ z)
-    go (no d) = absurd (g (no-bits w row h (λ j k. trailing-none w row j (omega (arith, trailing-le w row)))))
-    go (yes k) = (k, trailing-bit w row k, λ z b. least z b (decLe (trailingZeros w row) z))
+    go : Dec (trailingZeros w row < w) → Lowest w row (trailingZeros w row)
+    go (no d) = absurd (omega (arith, no-bits w row h (λ j k. trailing-none w row j (omega (arith, trailing-le w row)))))
+    go (yes k) = record { below = k; bit = trailing-bit w row k; least = λ z b. least z b (decLe (trailingZeros w row) z) }
       where
         least : (z : ℕ) → Bit row z → Dec (trailingZeros w row ≤ z) → trailingZeros w row ≤ z
         least z b (yes q) = q
         least z b (no q) = absurd (trailing-none w row z (omega arith) b)
-
-pub lowest-place : (w row : ℕ) → row < 2 ^ w → 0 < row → Lowest w row (trailingZeros w row)
-lowest-place w row h p = let t = lowest w row h (λ e. absurd (omega (arith, e))) in record { below = t .0; bit = t .1; least = t .2 }
 
 -- ---- `row - (1 << j)` at w bits
 

@@ -1,4 +1,4 @@
--- The contracts determine the results: two that they allow are equal.
+-- The contracts determine the results: two that they allow are equal. A row of w bits is below 2 ^ w.
 use Prim.Native.Nat.{ℕ, _<_}
 use mathlib.Core.Path.{_≡_, refl, sym, _∙_}
 use mathlib.Core.Bool.{Bool, true, false}
@@ -11,8 +11,8 @@ use lib.Seq.{ext-getD}
 use Rattle.determined.specs.Determined.{Determines}
 use Rattle.rules.proofs.Unique.{counts-one}
 use Rattle.rows.specs.Rows.{Bit}
-use Rattle.rows.specs.Row.{With, Without, Join, Lowest, Ones}
-use Rattle.rows.specs.Closure.{Kept, Closure}
+use Rattle.rows.specs.Row.{With, Without, Join, Meet, AllBelow, Lowest, Ones}
+use Rattle.rows.specs.Closure.{KeptFrom, Closure}
 use Rattle.rows.specs.Determined.{DeterminesRow, DeterminesRows, DeterminesWords}
 use Rattle.rows.proofs.Bits.{same-bits}
 
@@ -39,6 +39,12 @@ without-one w row j r s hr hs f g = told-one _ w r s hr hs (f .bits) (g .bits)
 pub join-one : (w a b : ℕ) → DeterminesRow w (Join a b)
 join-one w a b r s hr hs f g = told-one _ w r s hr hs (f .bits) (g .bits)
 
+pub meet-one : (w a b : ℕ) → DeterminesRow w (Meet a b)
+meet-one w a b r s hr hs f g = told-one _ w r s hr hs (f .bits) (g .bits)
+
+pub all-below-one : (w n : ℕ) → DeterminesRow w (AllBelow n)
+all-below-one w n r s hr hs f g = told-one _ w r s hr hs (f .bits) (g .bits)
+
 pub lowest-one : (w row : ℕ) → Determines (Lowest w row)
 lowest-one w row r s f g = omega (arith, f .least s (g .bit), g .least r (f .bit))
 
@@ -48,7 +54,7 @@ ones-one w row r s f g = counts-one (Bit row) w r s (f .counted) (g .counted)
 -- ---- arrays of rows
 
 -- what is equal below n and kept from n on
-pub kept-one : (n : ℕ) (given r s : List ℕ) → Kept n given r → Kept n given s → ((i : ℕ) → i < n → getD r i 0 ≡ getD s i 0) → r ≡ s
+pub kept-one : (n : ℕ) (given r s : List ℕ) → KeptFrom n given r → KeptFrom n given s → ((i : ℕ) → i < n → getD r i 0 ≡ getD s i 0) → r ≡ s
 kept-one n given r s f g same = ext-getD 0 r s (f .long ∙ sym (g .long)) (λ i h. go i (decLt i n))
   where
     go : (i : ℕ) → Dec (i < n) → getD r i 0 ≡ getD s i 0
@@ -57,7 +63,7 @@ kept-one n given r s f g same = ext-getD 0 r s (f .long ∙ sym (g .long)) (λ i
 
 -- the first n rows say a relation, and the rest is kept
 pub relation-one : (R : ℕ → ℕ → Type 0) (w n : ℕ) (given : List ℕ)
-    → DeterminesRows w (λ rows. ((i j : ℕ) → i < n → Bit (getD rows i 0) j ↔ R i j) × Kept n given rows)
+    → DeterminesRows w (λ rows. ((i j : ℕ) → i < n → Bit (getD rows i 0) j ↔ R i j) × KeptFrom n given rows)
 relation-one R w n given r s hr hs f g =
     kept-one n given r s (f .1) (g .1) (λ i h. told-one (R i) w (getD r i 0) (getD s i 0) (hr i) (hs i) (λ j. f .0 i j h) (λ j. g .0 i j h))
 
@@ -65,8 +71,6 @@ relation-one R w n given r s hr hs f g =
 pub words-one : (n : ℕ) (R : ℕ → ℕ → Type 0) → DeterminesWords n (λ rows. (i j : ℕ) → Bit (getD rows i 0) j ↔ R i j)
 words-one n R r s u v f g =
     ext-getD 0 r s (u .long ∙ sym (v .long)) (λ i h. told-one (R i) 32 (getD r i 0) (getD s i 0) (u .small i) (v .small i) (f i) (g i))
-
--- ---- The contract determines the result: two that it allows are equal. A row of w bits is below 2 ^ w.
 
 pub closure-one : (w n : ℕ) (given : List ℕ) → DeterminesRows w (Closure n given)
 closure-one w n given r s hr hs f g = relation-one _ w n given r s hr hs (f .reached, f .kept) (g .reached, g .kept)

@@ -1,5 +1,7 @@
 pub mod Bits
 pub mod Given
-pub mod Filling
+pub mod FillingRows
 pub mod Determined
 pub mod Together
+pub mod Told
+pub mod Strays

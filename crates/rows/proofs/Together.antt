@@ -6,21 +6,22 @@ use mathlib.Core.List.{List}
 use native.Mathlib.Decide.{ℕ-discrete}
 use native.Mathlib.Omega.{arith}
 use lib.ListN.{getD}
+use lib.Pow.{pow-pos}
 use Rattle.rows.specs.Rows.{Bit}
 use Rattle.rows.specs.Row.{Join}
 use Rattle.rows.proofs.Bits.{bit-zero}
 
-module _ (rows : List ℕ) (n : ℕ) where
-  -- the bits of the rows below i, together
+module _ (w : ℕ) (rows : List ℕ) (n : ℕ) where
+  -- the bits of the rows below i, together, in a row of w bits
   pub record Together (all i : ℕ) : Type 0 where
     pub at-most : i ≤ n
-    pub small : all < 2 ^ 32
+    pub small : all < 2 ^ w
     pub bits : (j : ℕ) → Bit all j ↔ ((a : ℕ) × (a < i) × Bit (getD rows a 0) j)
 
   pub together-start : Together 0 0
-  together-start = record { at-most = omega arith; small = omega arith; bits = λ j. (λ b. absurd (bit-zero j b), λ t. absurd (omega (arith, t .1))) }
+  together-start = record { at-most = omega arith; small = pow-pos w; bits = λ j. (λ b. absurd (bit-zero j b), λ t. absurd (omega (arith, t .1))) }
 
-  pub together-step : (all i next : ℕ) → i < n → Join all (getD rows i 0) next → next < 2 ^ 32 → Together all i → Together next (i + 1)
+  pub together-step : (all i next : ℕ) → i < n → Join all (getD rows i 0) next → next < 2 ^ w → Together all i → Together next (i + 1)
   together-step all i next hi joined small inv = record {
     at-most = omega arith;
     small = small;

@@ -8,18 +8,18 @@ use Rattle.rules.specs.Walks.{Rel, Plus}
 use Rattle.rows.specs.Rows.{Bit}
 
 -- A step of the first n rows: it starts below n, and bit j of row i says where it may end.
-abbrev pub Steps : ℕ → List ℕ → Rel
-Steps n rows i j = (i < n) × Bit (getD rows i 0) j
+abbrev pub RowStep : ℕ → List ℕ → Rel
+RowStep n rows i j = (i < n) × Bit (getD rows i 0) j
 
 -- The rows from n on are as they were, and there are as many rows.
-pub record Kept (n : ℕ) (given rows : List ℕ) : Type 0 where
+pub record KeptFrom (n : ℕ) (given rows : List ℕ) : Type 0 where
   pub rest : (i : ℕ) → n ≤ i → getD rows i 0 ≡ getD given i 0
   pub long : length rows ≡ length given
 
 -- Bit j of row i, i below n: j is reached from i by one or more of the steps given.
 pub record Closure (n : ℕ) (given rows : List ℕ) : Type 0 where
-  pub reached : (i j : ℕ) → i < n → Bit (getD rows i 0) j ↔ Plus (Steps n given) i j
-  pub kept : Kept n given rows
+  pub reached : (i j : ℕ) → i < n → Bit (getD rows i 0) j ↔ Plus (RowStep n given) i j
+  pub kept : KeptFrom n given rows
 
 -- r has the bits of row, and those of other too if row has bit k.
 pub record Joined (row other k r : ℕ) : Type 0 where
@@ -28,4 +28,4 @@ pub record Joined (row other k r : ℕ) : Type 0 where
 -- A round of the closure: each of the first n rows takes in row k if it has bit k.
 pub record Round (given : List ℕ) (n k : ℕ) (rows : List ℕ) : Type 0 where
   pub each : (i : ℕ) → i < n → Joined (getD given i 0) (getD given k 0) k (getD rows i 0)
-  pub kept : Kept n given rows
+  pub kept : KeptFrom n given rows

@@ -18,6 +18,14 @@ pub record Without (row j r : ℕ) : Type 0 where
 pub record Join (a b r : ℕ) : Type 0 where
   pub bits : (i : ℕ) → Bit r i ↔ (Bit a i ⊎ Bit b i)
 
+-- r has the bits that a and b both have.
+pub record Meet (a b r : ℕ) : Type 0 where
+  pub bits : (i : ℕ) → Bit r i ↔ (Bit a i × Bit b i)
+
+-- r has every bit below n, and no other.
+pub record AllBelow (n r : ℕ) : Type 0 where
+  pub bits : (i : ℕ) → Bit r i ↔ (i < n)
+
 -- r is the place of the lowest set bit, of w bits.
 pub record Lowest (w row r : ℕ) : Type 0 where
   pub below : r < w

@@ -1,5 +1,5 @@
 -- A relation given by rows: bit j of row i says that i is in relation to j. Nothing here knows a width.
-use Prim.Native.Nat.{ℕ, _<_, _/_, _%_, _^_}
+use Prim.Native.Nat.{ℕ, _<_, _≤_, _/_, _%_, _^_}
 use mathlib.Core.Path.{_≡_}
 use mathlib.Core.List.{List}
 use lib.ListN.{getD}
@@ -13,6 +13,14 @@ Bit row j = row / 2 ^ j % 2 ≡ 1
 pub record Rows (n : ℕ) (rows : List ℕ) (i j : ℕ) : Type 0 where
   pub i-below : i < n
   pub j-below : j < n
+  pub bit : Bit (getD rows i 0) j
+
+-- One of the first n rows has a bit at or above n.
+pub record Stray (n : ℕ) (rows : List ℕ) : Type 0 where
+  pub i : ℕ
+  pub j : ℕ
+  pub i-below : i < n
+  pub j-above : n ≤ j
   pub bit : Bit (getD rows i 0) j
 
 -- The relations of n messages that two tables of rows give.

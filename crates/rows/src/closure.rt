@@ -8,8 +8,8 @@ fn joined(row: u32, other: u32, k: usize) -> u32
     requires { ⌜ k < 32 ⌝ }
     ensures { λ r. ⌜ Joined row other k r ⌝ }
 {
-    if (row >> k) % 2 == 1 {
-        row | other
+    if crate::has(row, k) {
+        crate::join(row, other)
     } else {
         row
     }

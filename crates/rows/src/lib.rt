@@ -4,9 +4,12 @@ pub mod closure;
 ghost use mathlib.Core.Path.{_≡_};
 ghost use mathlib.Core.Bool.{true};
 ghost use mathlib.Core.Logic.{_↔_};
-ghost use Prim.Native.Nat.{_<_};
+ghost use Prim.Native.Nat.{_<_, _≤_};
 ghost use Rattle.rows.specs.Rows.{Bit};
-ghost use Rattle.rows.specs.Row.{With, Without, Join, Lowest, Ones};
+ghost use Rattle.rows.specs.Row.{With, Without, Join, Meet, AllBelow, Lowest, Ones};
+
+// How many bits a row has.
+pub const WIDTH: usize = 32;
 
 // Whether the row has bit j.
 pub fn has(row: u32, j: usize) -> bool
@@ -32,14 +35,29 @@ pub fn without(row: u32, j: usize) -> u32
     row - (1 << j)
 }
 
-// The bits of both rows.
+// The bits of either row.
 pub fn join(a: u32, b: u32) -> u32
     ensures { λ r. ⌜ Join a b r ⌝ }
 {
     a | b
 }
 
-// The place of the lowest set bit.
+// The bits that both rows have.
+pub fn meet(a: u32, b: u32) -> u32
+    ensures { λ r. ⌜ Meet a b r ⌝ }
+{
+    a & b
+}
+
+// The row with every bit below n.
+pub fn all_below(n: usize) -> u32
+    requires { ⌜ (1 ≤ n) × (n ≤ 32) ⌝ }
+    ensures { λ r. ⌜ AllBelow n r ⌝ }
+{
+    0xffff_ffff >> (WIDTH - n)
+}
+
+// The place of the lowest set bit: its trailing zeros.
 pub fn lowest(row: u32) -> usize
     requires { ⌜ 0 < row ⌝ }
     ensures { λ r. ⌜ Lowest 32 row r ⌝ }

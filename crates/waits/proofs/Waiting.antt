@@ -16,7 +16,7 @@ use Rattle.rules.proofs.Same.{counts-map}
 use Rattle.rules.proofs.Decided.{waits-within}
 use Rattle.rows.specs.Rows.{Bit, Rows, ofRows}
 use Rattle.rows.specs.Row.{Without, Join, Lowest, Ones}
-use Rattle.rows.specs.Closure.{Steps, Kept, Closure}
+use Rattle.rows.specs.Closure.{RowStep, KeptFrom, Closure}
 use Rattle.rows.proofs.Bits.{bit?, bit-zero}
 use Rattle.rows.proofs.Given.{rows-accepted}
 use Rattle.waits.specs.Waiting.{Tidy, Spread, Gathered, WaitsRows, RowPairs}
@@ -71,7 +71,7 @@ module _ (n : ℕ) (closed stalls old : List ℕ) where
   pub record GatherInv (rows : List ℕ) (a : ℕ) : Type 0 where
     pub at-most : a ≤ n
     pub bits : (b c : ℕ) → b < n → Bit (getD rows b 0) c ↔ ((x : ℕ) × (x < a) × Bit (getD stalls x 0) b × Bit (getD closed x 0) c)
-    pub kept : Kept n old rows
+    pub kept : KeptFrom n old rows
 
   pub gather-start : ((b : ℕ) → b < n → getD old b 0 ≡ 0) → GatherInv old 0
   gather-start f = record {
@@ -114,7 +114,7 @@ module _ (n : ℕ) (closed stalls old : List ℕ) where
           pick t (yes e) = absurd (g (subst (λ (z : ℕ). Bit (getD stalls z 0) b) e (t .2)))
           pick t (no f) = (t .0, omega (arith, t .1), t .2, t .3)
 
-  pub gather-end : (given rows : List ℕ) (a : ℕ) → n ≤ a → Kept n given old → GatherInv rows a → Gathered n closed stalls given rows
+  pub gather-end : (given rows : List ℕ) (a : ℕ) → n ≤ a → KeptFrom n given old → GatherInv rows a → Gathered n closed stalls given rows
   gather-end given rows a h k inv =
       let e : a ≡ n = omega (arith, inv .at-most) in
       record { bits = rw e at (inv .bits); kept = record { rest = λ i l. inv .kept .rest i l ∙ k .rest i l; long = inv .kept .long ∙ k .long } }
@@ -122,7 +122,7 @@ module _ (n : ℕ) (closed stalls old : List ℕ) where
 -- ---- rule 4
 
 module _ (n : ℕ) (causes : List ℕ) (tidy : Tidy n causes) where
-  pub steps-rows : (a c : ℕ) → Plus (Steps n causes) a c ↔ Plus (Rows n causes) a c
+  pub steps-rows : (a c : ℕ) → Plus (RowStep n causes) a c ↔ Plus (Rows n causes) a c
   steps-rows a c = (
     plus-map (λ i j s. record { i-below = s .0; j-below = tidy i j (s .0) (s .1); bit = s .1 }) a c,
     plus-map (λ i j r. (r .i-below, r .bit)) a c,

@@ -1,3 +1,2 @@
 pub mod Waiting
-pub mod Rows
 pub mod steps

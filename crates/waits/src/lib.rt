@@ -5,8 +5,8 @@ ghost use Prim.Native.Nat.{ℕ, _<_, _≤_};
 ghost use lib.ListN.{length};
 ghost use Rattle.rows.specs.Rows.{Bit};
 ghost use Rattle.rows.specs.Closure.{Closure};
-ghost use Rattle.waits.specs.Waiting.{Tidy, Spread, Cleared, Gathered, WaitsRows, RowPairs};
-ghost use Rattle.waits.specs.Rows.{WaitsOnly};
+ghost use Rattle.waits.specs.Waiting.{Tidy, Spread, Cleared, Gathered, WaitsRows, WaitsOnly, RowPairs};
+use rows::WIDTH;
 
 // Each row whose place is in the set takes in the row. The next place is found by trailing zeros.
 fn spread(row: u32, set: u32, waits: &mut [u32])
@@ -70,15 +70,13 @@ pub fn pairs(rows: &[u32], n: usize) -> usize
     sum
 }
 
-// ---- The rows of waits among a protocol's messages, by rule 4.
-
 // The rows of waits of n messages, by rule 4. The other rows are 0.
-pub fn waits_of(causes: [u32; 32], stalls: [u32; 32], n: usize) -> [u32; 32]
+pub fn waits_of(causes: [u32; WIDTH], stalls: [u32; WIDTH], n: usize) -> [u32; WIDTH]
     requires { ⌜ (n ≤ 32) × Tidy n causes × Tidy n stalls ⌝ }
     ensures { λ r. ⌜ WaitsOnly n causes stalls r ⌝ }
 {
     let mut closed = causes;
-    let mut waits = [0u32; 32];
+    let mut waits = [0u32; WIDTH];
     crate::waits(&mut closed, &stalls, n, &mut waits);
     waits
 }

@@ -1,10 +1,12 @@
 // The rows of steps among a protocol's messages: waits steps that are given, and queues steps by rule 5.
 ghost use Prim.Native.Nat.{_<_, _≤_};
 ghost use Rattle.waits.specs.steps.Steps.{mappingOf, StepsRows, StalledRow, WithBehind, QueuesRow};
+use rows::WIDTH;
+use rules::Message;
 use rules::Network;
 
 // The messages that something stalls.
-fn stalled_of(stalls: [u32; 32], n: usize) -> u32
+fn stalled_of(stalls: [u32; WIDTH], n: usize) -> u32
     requires { ⌜ n ≤ 32 ⌝ }
     ensures { λ r. ⌜ StalledRow stalls n r ⌝ }
 {
@@ -18,47 +20,58 @@ fn stalled_of(stalls: [u32; 32], n: usize) -> u32
 }
 
 // The row with k, if m queues behind k.
-fn with_behind(row: u32, networks: [Network; 32], stalled: u32, m: usize, k: usize) -> u32
-    requires { ⌜ (m < 32) × (k < 32) ⌝ }
-    ensures { λ r. ⌜ WithBehind (mappingOf networks) stalled m k row r ⌝ }
+fn with_behind(row: u32, networks: [Network; WIDTH], stalled: u32, m: Message, k: Message) -> u32
+    requires { ⌜ (m .0 < 32) × (k .0 < 32) ⌝ }
+    ensures { λ r. ⌜ WithBehind (mappingOf networks) stalled (m .0) (k .0) row r ⌝ }
 {
-    if m == k {
+    if m.0 == k.0 {
         return row;
     }
-    if networks[m].0 != networks[k].0 {
+    let from = m.index();
+    let to = k.index();
+    let own: Network = networks[from];
+    let other: Network = networks[to];
+    if own.0 != other.0 {
         return row;
     }
-    if !rows::has(stalled, k) {
+    if !rows::has(stalled, to) {
         return row;
     }
-    rows::with_bit(row, k)
+    rows::with_bit(row, to)
 }
 
 // The messages, of the first n, behind which m queues.
-fn queues_row(networks: [Network; 32], stalled: u32, n: usize, m: usize) -> u32
-    requires { ⌜ (n ≤ 32) × (m < n) ⌝ }
-    ensures { λ r. ⌜ QueuesRow (mappingOf networks) stalled n m r ⌝ }
+fn queues_row(networks: [Network; WIDTH], stalled: u32, n: usize, m: Message) -> u32
+    requires { ⌜ (n ≤ 32) × (m .0 < n) ⌝ }
+    ensures { λ r. ⌜ QueuesRow (mappingOf networks) stalled n (m .0) r ⌝ }
 {
     let mut row = 0u32;
-    let mut k = 0;
-    while k < n {
+    let mut i = 0;
+    while i < n {
+        let k = Message(i as u8);
         row = with_behind(row, networks, stalled, m, k);
-        k += 1;
+        i += 1;
     }
     row
 }
 
 // The rows of waits and queues steps together, by rule 5. The rows from n on are 0.
-pub fn steps_of(waits: [u32; 32], stalls: [u32; 32], networks: [Network; 32], n: usize) -> [u32; 32]
+pub fn steps_of(
+    waits: [u32; WIDTH],
+    stalls: [u32; WIDTH],
+    networks: [Network; WIDTH],
+    n: usize,
+) -> [u32; WIDTH]
     requires { ⌜ n ≤ 32 ⌝ }
     ensures { λ r. ⌜ StepsRows waits stalls (mappingOf networks) n r ⌝ }
 {
     let stalled = stalled_of(stalls, n);
-    let mut steps = [0u32; 32];
-    let mut m = 0;
-    while m < n {
-        steps[m] = rows::join(waits[m], queues_row(networks, stalled, n, m));
-        m += 1;
+    let mut steps = [0u32; WIDTH];
+    let mut i = 0;
+    while i < n {
+        let m = Message(i as u8);
+        steps[i] = rows::join(waits[i], queues_row(networks, stalled, n, m));
+        i += 1;
     }
     steps
 }

@@ -1,10 +1,11 @@
--- The contract determines the answer: two rows of w bits that it allows are equal.
+-- The contracts determine the answers: two that they allow are equal, and so are the lent bytes.
 use Prim.Native.Nat.{ℕ, zero, suc, _<_, _≤_}
+use mathlib.Core.Path.{_≡_, refl, sym, subst, ap, ap₂, _∙_}
 use mathlib.Core.List.{List, [], _∷_, _++_}
-use mathlib.Core.Path.{_≡_, refl, sym, ap₂, _∙_, subst, ap}
 use native.Mathlib.Decide.{ℕ-discrete}
 use native.Mathlib.Omega.{arith}
-use lib.ListN.{length, getD, drop, length-append, take, take-append-drop}
+use lib.ListN.{length, getD, take, drop, length-append, take-append-drop}
+use lib.Seq.{length-take-le}
 use Rattle.determined.specs.Determined.{DeterminesLent}
 use Rattle.rules.specs.Walks.{Rel, Chain, Plus}
 use Rattle.rules.specs.Plan.{Height}
@@ -12,7 +13,6 @@ use Rattle.rules.proofs.Cycle.{chain-join}
 use Rattle.rules.proofs.Unique.{height-one, shown-one}
 use Rattle.rows.specs.Rows.{Rows}
 use Rattle.walks.specs.Walks.{Heights, Cycle}
-use lib.Seq.{length-take-le}
 
 -- a number on a cycle has no height
 no-height : (R : Rel) (a h : ℕ) → Plus R a a → ¬ Height R a h

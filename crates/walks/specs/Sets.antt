@@ -1,4 +1,4 @@
--- What the private functions answer: rows that are sets of numbers, and tables of such sets.
+-- What is found on the way to the heights and to the shown cycle: rows that are sets of numbers, and tables of such sets.
 use Prim.Native.Nat.{ℕ, zero, suc, _+_, _-_, _<_, _≤_}
 use mathlib.Core.Path.{_≡_}
 use mathlib.Core.Logic.{_↔_}
@@ -15,16 +15,16 @@ pub record Into (s : List ℕ) (n set r : ℕ) : Type 0 where
 -- ---- heights
 
 -- A chain of k steps starts at m, which is below n.
-abbrev pub Steps : Rel → ℕ → ℕ → ℕ → Type 0
-Steps R n zero m = m < n
-Steps R n (suc k) m = (z : ℕ) × R m z × Steps R n k z
+abbrev pub StepsFrom : Rel → ℕ → ℕ → ℕ → Type 0
+StepsFrom R n zero m = m < n
+StepsFrom R n (suc k) m = (z : ℕ) × R m z × StepsFrom R n k z
 
 -- The set at place k of the table has the numbers at which a chain of k steps starts, for k up to r. The last of these sets is empty, the one before is not.
 pub record Levels (w : List ℕ) (n : ℕ) (sets : List ℕ) (r : ℕ) : Type 0 where
   pub fits : r ≤ n
-  pub sets-are : (k : ℕ) → k ≤ r → (m : ℕ) → Bit (getD sets k 0) m ↔ Steps (Rows n w) n k m
+  pub sets-are : (k : ℕ) → k ≤ r → (m : ℕ) → Bit (getD sets k 0) m ↔ StepsFrom (Rows n w) n k m
   pub empty : getD sets r 0 ≡ 0
-  pub some : (j : ℕ) → r ≡ suc j → (m : ℕ) × Steps (Rows n w) n j m
+  pub some : (j : ℕ) → r ≡ suc j → (m : ℕ) × StepsFrom (Rows n w) n j m
 
 -- The answer of `rounds`.
 pub record Rounds (w : List ℕ) (n : ℕ) (sets : List ℕ) (r : ℕ) : Type 0 where
@@ -36,14 +36,14 @@ abbrev pub Sinks : List ℕ → Type 0
 Sinks sets = (k : ℕ) × (k ≤ 32) × (getD sets k 0 ≡ 0)
 
 -- m is in the sets 0 to h, and not in the one after.
-pub record Last (sets : List ℕ) (m h : ℕ) : Type 0 where
+pub record LastSet (sets : List ℕ) (m h : ℕ) : Type 0 where
   pub small : h < 32
   pub in-it : (j : ℕ) → j ≤ h → Bit (getD sets j 0) m
   pub not-next : ¬ Bit (getD sets (h + 1) 0) m
 
 -- The answer of `write`.
 pub record Written (sets : List ℕ) (n : ℕ) (old new : List ℕ) : Type 0 where
-  pub last : (m : ℕ) → m < n → Last sets m (getD new m 0)
+  pub last : (m : ℕ) → m < n → LastSet sets m (getD new m 0)
   pub rest : drop n new ≡ drop n old
 
 -- ---- the shown cycle
@@ -57,19 +57,19 @@ pub record After (s : List ℕ) (n set r : ℕ) : Type 0 where
   pub bits : (y : ℕ) → Bit r y ↔ ((y < n) × ((z : ℕ) × Bit set z × Bit (getD s z 0) y))
 
 -- A step of w and then k steps of s lead from x to v.
-abbrev pub Goes : List ℕ → List ℕ → ℕ → ℕ → ℕ → ℕ → Type 0
-Goes w s n x k v = (y : ℕ) × Rows n w x y × Exactly (Rows n s) k y v
+abbrev pub Reaches : List ℕ → List ℕ → ℕ → ℕ → ℕ → ℕ → Type 0
+Reaches w s n x k v = (y : ℕ) × Rows n w x y × Exactly (Rows n s) k y v
 
 -- A closed walk of k + 1 steps begins at x: a step of w, and k steps of s.
-abbrev pub Opens : List ℕ → List ℕ → ℕ → ℕ → ℕ → Type 0
-Opens w s n x k = Goes w s n x k x
+abbrev pub ClosedFrom : List ℕ → List ℕ → ℕ → ℕ → ℕ → Type 0
+ClosedFrom w s n x k = Reaches w s n x k x
 
 -- The answer of `shortest`: the steps of the shortest closed walks that begin at x; 0 where none of at most `most` steps does.
 pub record Shortest (w s : List ℕ) (n x most r : ℕ) : Type 0 where
   pub fits : r ≤ most
-  pub none : r ≡ 0 → (k : ℕ) → k < most → ¬ Opens w s n x k
-  pub opens : ¬ (r ≡ 0) → Opens w s n x (r - 1)
-  pub none-shorter : ¬ (r ≡ 0) → (k : ℕ) → suc k < r → ¬ Opens w s n x k
+  pub none : r ≡ 0 → (k : ℕ) → k < most → ¬ ClosedFrom w s n x k
+  pub opens : ¬ (r ≡ 0) → ClosedFrom w s n x (r - 1)
+  pub none-shorter : ¬ (r ≡ 0) → (k : ℕ) → suc k < r → ¬ ClosedFrom w s n x k
 
 -- The set at place k of the table has the numbers from which x is reached in exactly k steps, for k below len.
 abbrev pub Layers : List ℕ → ℕ → ℕ → ℕ → List ℕ → Type 0
@@ -77,7 +77,7 @@ Layers s n x len sets = (k : ℕ) → k < len → (y : ℕ) → Bit (getD sets k
 
 -- The shortest closed walks have len steps, and x is the least number that one of them begins with.
 pub record FoundAt (w s : List ℕ) (n len x : ℕ) : Type 0 where
-  pub opens : Opens w s n x (len - 1)
+  pub opens : ClosedFrom w s n x (len - 1)
   pub none-shorter : (m : List ℕ) → Closed (Rows n w) (Rows n s) m → len ≤ length m
   pub none-before : (m : List ℕ) → Closed (Rows n w) (Rows n s) m → length m ≡ len → x ≤ getD m 0 0
 

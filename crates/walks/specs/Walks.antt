@@ -1,4 +1,4 @@
--- What the two public functions answer. The tables w and s are lists of rows: bit j of row i says that a step leads from i to j.
+-- What `heights` and `cycle` answer. The tables w and s are lists of rows: bit j of row i says that a step leads from i to j.
 -- `old` and `new` are the lent bytes at entry and at exit.
 use Prim.Native.Nat.{ℕ, suc, _<_, _≤_}
 use mathlib.Core.Path.{_≡_}

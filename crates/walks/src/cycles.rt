@@ -1,9 +1,10 @@
 // The shortest closed walks of a relation that is given by rows of bits, and the shown cycle.
 ghost use Prim.Native.Nat.{_<_, _≤_};
+ghost use mathlib.Core.Path.{_≡_};
 ghost use lib.ListN.{length};
 ghost use Rattle.walks.specs.Walks.{Within, Cycle};
 ghost use Rattle.walks.specs.Sets.{Below, After, Shortest, Layers, FoundAt, Drawn};
-ghost use mathlib.Core.Path.{_≡_};
+use rows::WIDTH;
 
 // The numbers below n to which a step of s leads from a number of the set.
 fn after(s: &[u32], n: usize, set: u32) -> u32
@@ -14,11 +15,11 @@ fn after(s: &[u32], n: usize, set: u32) -> u32
     let mut r: u32 = 0;
     let mut left: u32 = set;
     while left != 0 {
-        let z = u32::trailing_zeros(left);
-        r = r | s[z as usize];
-        left = left & (left - 1);
+        let z = rows::lowest(left);
+        r = rows::join(r, s[z]);
+        left = rows::without(left, z);
     }
-    r & (0xffff_ffff >> (32 - n))
+    rows::meet(r, rows::all_below(n))
 }
 
 // The length of the shortest closed walks that begin at x with a step of w, if it is at most `most`; else 0.
@@ -29,9 +30,9 @@ fn shortest(w: &[u32], s: &[u32], n: usize, x: usize, most: usize) -> usize
     if most == 0 {
         return 0;
     }
-    let mut set: u32 = w[x] & (0xffff_ffff >> (32 - n));
+    let mut set: u32 = rows::meet(w[x], rows::all_below(n));
     let mut k: usize = 0;
-    while (set >> x) & 1 == 0 {
+    while !rows::has(set, x) {
         if set == 0 {
             return 0;
         }
@@ -44,8 +45,55 @@ fn shortest(w: &[u32], s: &[u32], n: usize, x: usize, most: usize) -> usize
     k + 1
 }
 
+// Fills the table: at each place k below len, the numbers from which x is reached in exactly k steps of s.
+fn layers(s: &[u32], n: usize, x: usize, len: usize, sets: &mut [u32; WIDTH])
+    requires { ⌜ (n ≤ 32) × (x < n) × (len ≤ n) × (n ≤ length (now s)) ⌝ }
+    requires { ⌜ length (now sets) ≡ 32 ⌝ }
+    ensures { λ _. ⌜ Layers (now (s .entry)) n x len (now (sets .exit)) ⌝ }
+{
+    let mut set: u32 = rows::with_bit(0, x);
+    let mut k: usize = 0;
+    sets[0] = set;
+    while k + 1 < len {
+        set = crate::into(s, n, set);
+        k += 1;
+        sets[k] = set;
+    }
+}
+
+// Writes the shown cycle: x, and at each further place the lowest number that follows and from which x is reached in the steps that are left.
+fn show(w: &[u32], s: &[u32], n: usize, len: usize, x: usize, sets: &[u32; WIDTH], out: &mut [u8])
+    requires { ⌜ (n ≤ 32) × (x < n) × (1 ≤ len) × (len ≤ n) × (n ≤ length (now w)) × (n ≤ length (now s)) × (n ≤ length (now out)) ⌝ }
+    requires { ⌜ Within n (now w) (now s) ⌝ }
+    requires { ⌜ FoundAt (now w) (now s) n len x ⌝ }
+    requires { ⌜ Layers (now s) n x len (now sets) ⌝ }
+    ensures { λ _. ⌜ Drawn (now (w .entry)) (now (s .entry)) n len (now (out .entry)) (now (out .exit)) ⌝ }
+{
+    out[0] = x as u8;
+    let mut row = w[x];
+    let mut i: usize = 1;
+    while i < len {
+        let z = rows::lowest(rows::meet(row, sets[len - i]));
+        out[i] = z as u8;
+        row = s[z];
+        i += 1;
+    }
+}
+
+// Writes the shown cycle of len numbers that begins at x.
+fn draw(w: &[u32], s: &[u32], n: usize, len: usize, x: usize, out: &mut [u8])
+    requires { ⌜ (n ≤ 32) × (x < n) × (1 ≤ len) × (len ≤ n) × (n ≤ length (now w)) × (n ≤ length (now s)) × (n ≤ length (now out)) ⌝ }
+    requires { ⌜ Within n (now w) (now s) ⌝ }
+    requires { ⌜ FoundAt (now w) (now s) n len x ⌝ }
+    ensures { λ _. ⌜ Drawn (now (w .entry)) (now (s .entry)) n len (now (out .entry)) (now (out .exit)) ⌝ }
+{
+    let mut sets: [u32; WIDTH] = [0; WIDTH];
+    layers(s, n, x, len, &mut sets);
+    show(w, s, n, len, x, &sets, out);
+}
+
 // Writes the shown cycle of steps of s whose first step is one of w, and returns its length; 0 where there is none, and then writes nothing.
-// Each start is searched only for walks shorter than the best so far, so the least start is kept.
+// At each start only walks shorter than the best so far are searched, so the least start is kept.
 pub fn cycle(w: &[u32], s: &[u32], n: usize, out: &mut [u8]) -> usize
     requires { do ⌜ (n ≤ 32) × (n ≤ (← ⟦w.len()⟧)) × (n ≤ (← ⟦s.len()⟧)) × (n ≤ (← ⟦out.len()⟧)) ⌝ }
     requires { ⌜ Within n (now w) (now s) ⌝ }
@@ -69,53 +117,4 @@ pub fn cycle(w: &[u32], s: &[u32], n: usize, out: &mut [u8]) -> usize
     }
     draw(w, s, n, len, start, out);
     len
-}
-
-// ---- The shown cycle, drawn where its length and its start are found.
-
-// Fills the table: at each place k below len, the numbers from which x is reached in exactly k steps of s.
-fn layers(s: &[u32], n: usize, x: usize, len: usize, sets: &mut [u32; 32])
-    requires { ⌜ (n ≤ 32) × (x < n) × (len ≤ n) × (n ≤ length (now s)) ⌝ }
-    requires { ⌜ length (now sets) ≡ 32 ⌝ }
-    ensures { λ _. ⌜ Layers (now (s .entry)) n x len (now (sets .exit)) ⌝ }
-{
-    let mut set: u32 = 1u32 << x;
-    let mut k: usize = 0;
-    sets[0] = set;
-    while k + 1 < len {
-        set = crate::into(s, n, set);
-        k += 1;
-        sets[k] = set;
-    }
-}
-
-// Writes the shown cycle: x, and at each further place the lowest number that follows and from which x is reached in the steps that are left.
-fn show(w: &[u32], s: &[u32], n: usize, len: usize, x: usize, sets: &[u32; 32], out: &mut [u8])
-    requires { ⌜ (n ≤ 32) × (x < n) × (1 ≤ len) × (len ≤ n) × (n ≤ length (now w)) × (n ≤ length (now s)) × (n ≤ length (now out)) ⌝ }
-    requires { ⌜ Within n (now w) (now s) ⌝ }
-    requires { ⌜ FoundAt (now w) (now s) n len x ⌝ }
-    requires { ⌜ Layers (now s) n x len (now sets) ⌝ }
-    ensures { λ _. ⌜ Drawn (now (w .entry)) (now (s .entry)) n len (now (out .entry)) (now (out .exit)) ⌝ }
-{
-    out[0] = x as u8;
-    let mut row = w[x];
-    let mut i: usize = 1;
-    while i < len {
-        let z = u32::trailing_zeros(row & sets[len - i]);
-        out[i] = z as u8;
-        row = s[z as usize];
-        i += 1;
-    }
-}
-
-// Writes the shown cycle of len numbers that begins at x.
-fn draw(w: &[u32], s: &[u32], n: usize, len: usize, x: usize, out: &mut [u8])
-    requires { ⌜ (n ≤ 32) × (x < n) × (1 ≤ len) × (len ≤ n) × (n ≤ length (now w)) × (n ≤ length (now s)) × (n ≤ length (now out)) ⌝ }
-    requires { ⌜ Within n (now w) (now s) ⌝ }
-    requires { ⌜ FoundAt (now w) (now s) n len x ⌝ }
-    ensures { λ _. ⌜ Drawn (now (w .entry)) (now (s .entry)) n len (now (out .entry)) (now (out .exit)) ⌝ }
-{
-    let mut sets: [u32; 32] = [0; 32];
-    layers(s, n, x, len, &mut sets);
-    show(w, s, n, len, x, &sets, out);
 }

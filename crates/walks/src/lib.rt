@@ -1,5 +1,5 @@
-// One step back in a relation that is given by rows of bits: bit j of row i says that a step leads from i to j.
-// What heights and the shown cycle are is defined here; the functions that find them are in crates above.
+// Walks in a relation that is given by rows of bits: bit j of row i says that a step leads from i to j. Heights and the shown
+// cycle are found in the modules; one step back, which both take, is here. A set of numbers is a row too.
 pub mod cycles;
 pub mod heights;
 
@@ -14,8 +14,8 @@ pub(crate) fn into(s: &[u32], n: usize, set: u32) -> u32
     let mut r: u32 = 0;
     let mut y: usize = 0;
     while y < n {
-        if s[y] & set != 0 {
-            r = r | (1u32 << y);
+        if rows::meet(s[y], set) != 0 {
+            r = rows::with_bit(r, y);
         }
         y += 1;
     }

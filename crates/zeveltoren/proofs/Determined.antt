@@ -4,7 +4,7 @@ use mathlib.Core.Path.{sym, ap, _∙_}
 use mathlib.Core.List.{List}
 use Rattle.determined.specs.Determined.{Determines, DeterminesLent}
 use Rattle.determined.proofs.Equal.{equal}
-use Rattle.relations.specs.call.Packed.{packedRelations}
+use Rattle.relations.specs.answer.Packed.{packedRelations}
 use Rattle.relations.proofs.Determined.{call-one}
 use Rattle.answers.specs.Answers.{packedAnswer}
 use Rattle.plan.proofs.Determined.{plan-determined}
@@ -13,7 +13,7 @@ use Rattle.zeveltoren.specs.Packed.{PackedRelations, PackedCheck, Packed
 
 pub relations-packed-determined : (n : ℕ) (causes stalls old : List ℕ) → DeterminesLent (PackedRelations n causes stalls old)
 relations-packed-determined n causes stalls old new new′ j k v w =
-    let q = call-one n causes stalls old new new′ (v .answer) (w .answer) (v .call) (w .call) in (v .is ∙ ap packedRelations (q .0) ∙ sym (w .is), q .1)
+    let q = call-one 4 32 n causes stalls old new new′ (v .answer) (w .answer) (v .call) (w .call) in (v .is ∙ ap packedRelations (q .0) ∙ sym (w .is), q .1)
 
 pub check-packed-determined : (text : List ℕ) → Determines (PackedCheck text)
 check-packed-determined text = equal _

@@ -3,8 +3,8 @@ use Prim.Native.Nat.{ℕ}
 use mathlib.Core.Path.{_≡_, refl, sym, subst, ap, _∙_}
 use mathlib.Core.List.{List}
 use native.Mathlib.Omega.{arith}
-use Rattle.relations.specs.call.Packed.{RelationsUnpacked}
-use Rattle.relations.proofs.call.Calls.{call-small, unpack-relations}
+use Rattle.relations.specs.answer.Packed.{RelationsUnpacked}
+use Rattle.relations.proofs.Calls.{call-small, unpack-relations}
 use Rattle.protocol.specs.declared.whole.Reading.{Reading}
 use Rattle.protocol.specs.Reading.{readProtocol}
 use Rattle.reading_laws.proofs.bounds.Bounds.{protocol-low}
@@ -19,7 +19,7 @@ use Rattle.zeveltoren.specs.Unpacked.{EveryRelations, EveryCheck, EveryP
 
 pub every-relations : EveryRelations
 every-relations n causes stalls old new k p =
-    subst (λ (j : ℕ). RelationsUnpacked j (p .answer)) (sym (p .is)) (unpack-relations (p .answer) (call-small n causes stalls old new (p .answer) (p .call)))
+    subst (λ (j : ℕ). RelationsUnpacked j (p .answer)) (sym (p .is)) (unpack-relations (p .answer) (call-small 4 32 n causes stalls old new (p .answer) (p .call) (omega arith)))
 
 pub check-told : (text : List ℕ) (r : Reading) (a : Answer) → r ≡ readProtocol text → a ≡ refusedAt (r .refusal) 0 → a ≡ checked text
 check-told text r a e f = f ∙ ap (λ (x : Reading). refusedAt (x .refusal) 0) e

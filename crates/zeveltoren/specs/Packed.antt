@@ -3,19 +3,19 @@
 use Prim.Native.Nat.{ℕ}
 use mathlib.Core.Path.{_≡_}
 use mathlib.Core.List.{List}
-use Rattle.relations.specs.declared.call.RelationsAnswer.{RelationsAnswer}
-use Rattle.relations.specs.call.Call.{Call as RelationsCall}
-use Rattle.relations.specs.call.Packed.{packedRelations}
+use Rattle.relations.specs.declared.answer.RelationsAnswer.{RelationsAnswer}
+use Rattle.relations.specs.answer.Packed.{packedRelations}
+use Rattle.relations.specs.Call.{RelationsCall}
 use Rattle.protocol.specs.Reading.{readProtocol}
 use Rattle.answers.specs.declared.Answer.{Answer}
 use Rattle.answers.specs.Answers.{refusedAt, packedAnswer}
 use Rattle.plan.specs.Call.{PlanCall}
 use Rattle.judge.specs.Call.{JudgeCall}
 
--- The relations call.
+-- The relations call: 4 bytes a row, and at most 32 messages.
 pub record PackedRelations (n : ℕ) (causes stalls old new : List ℕ) (k : ℕ) : Type 0 where
   pub answer : RelationsAnswer
-  pub call : RelationsCall n causes stalls old new answer
+  pub call : RelationsCall 4 32 n causes stalls old new answer
   pub is : k ≡ packedRelations answer
 
 -- The reading of a protocol text, which is paper 0: why and where it is refused; every number is 0 where it is accepted.

@@ -1,7 +1,7 @@
 -- A host reads every number of the answer out of the packed one.
 use Prim.Native.Nat.{ℕ}
 use mathlib.Core.List.{List}
-use Rattle.relations.specs.call.Packed.{RelationsUnpacked}
+use Rattle.relations.specs.answer.Packed.{RelationsUnpacked}
 use Rattle.answers.specs.Answers.{Unpacked}
 use Rattle.zeveltoren.specs.Packed.{PackedRelations, checked, PackedCheck, PackedPlan, PackedJudgement}
 

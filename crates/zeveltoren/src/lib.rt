@@ -7,7 +7,7 @@ pub extern "C" fn vn_relations(n: u64, causes: &[u8], stalls: &[u8], out: &mut [
     ensures { λ r. ⌜ PackedRelations n (now (causes .entry)) (now (stalls .entry)) (now (out .entry)) (now (out .exit)) r ⌝ }
 {
     let told = relations::relations(n as usize, causes, stalls, out);
-    relations::call::packed(told)
+    relations::answer::packed(told)
 }
 
 // Whether a protocol text is accepted, and else the refusal's number and line.

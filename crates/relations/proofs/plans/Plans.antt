@@ -11,16 +11,15 @@ use Rattle.rules.specs.Plan.{Height, Printed, LongestChain}
 use Rattle.rules.proofs.Chains.{plus-map}
 use Rattle.rules.proofs.Same.{height-same, pairs-same, shown-same}
 use Rattle.rules.proofs.Least.{least-count, longest-from}
-use Rattle.rules.proofs.Decided.{waits-within}
-use Rattle.rules.proofs.Decided.{plus-closed}
+use Rattle.rules.proofs.Decided.{waits-within, plus-closed}
 use Rattle.rows.specs.Rows.{Bit, Rows, ofRows}
 use Rattle.rows.proofs.Given.{rows-accepted}
 use Rattle.walks.specs.Walks.{Heights, Cycle}
 use Rattle.waits.specs.Waiting.{Tidy, WaitsRows, RowPairs}
-use Rattle.relations.specs.call.Call.{Wrote, Class3, Class2, Planned}
-use Rattle.relations.specs.call.Plans.{Ranked, Cycled, RowsPlan}
-use Rattle.relations.specs.declared.call.RelationsAnswer.{RelationsAnswer}
 use Rattle.waits.proofs.Waiting.{waits-same}
+use Rattle.text.specs.Written.{Wrote}
+use Rattle.relations.specs.declared.answer.RelationsAnswer.{RelationsAnswer}
+use Rattle.relations.specs.plans.Plans.{Class3, Class2, RelationsPlanned, Ranked, Cycled, WaitsPlan}
 
 -- ---- tables that have the same first n rows
 
@@ -42,33 +41,34 @@ waits-agree n causes causes′ stalls stalls′ e f b c w = (w .0, rows-agree n 
 -- ---- the plan of the rows of waits is the plan of the rules
 
 module _ (n : ℕ) (causes stalls rows : List ℕ) (some-message : 0 < n) (same : (b c : ℕ) → Rows n rows b c ↔ Waits (ofRows n causes stalls) b c) where
-  class-3 : (text : List ℕ) (networks : ℕ) → Ranked n rows text networks → Class3 (ofRows n causes stalls) text networks
-  class-3 text networks t = record {
+  class-3 : (bytes : List ℕ) (networks : ℕ) → Ranked n rows bytes networks → Class3 (ofRows n causes stalls) bytes networks
+  class-3 bytes networks t = record {
     long = t .long;
     printed = printed;
-    least = least-count (ofRows n causes stalls) (waits-within (ofRows n causes stalls) (rows-accepted n causes stalls some-message)) (λ m. getD text m 0) printed networks chain;
+    least = least-count (ofRows n causes stalls) (waits-within (ofRows n causes stalls) (rows-accepted n causes stalls some-message)) (λ m. getD bytes m 0) printed networks chain;
   }
     where
-      printed : Printed (ofRows n causes stalls) (λ m. getD text m 0)
-      printed m h = height-same (Rows n rows) (Waits (ofRows n causes stalls)) same m (getD text m 0) (t .heights m h)
+      printed : Printed (ofRows n causes stalls) (λ m. getD bytes m 0)
+      printed m h = height-same (Rows n rows) (Waits (ofRows n causes stalls)) same m (getD bytes m 0) (t .heights m h)
 
       chain : LongestChain (ofRows n causes stalls) networks
       chain =
           let g = t .greatest in
-          longest-from (ofRows n causes stalls) (λ m. getD text m 0) printed (g .0) (g .1) (λ y h. omega (arith, t .below y h, g .2)) networks (g .2)
+          longest-from (ofRows n causes stalls) (λ m. getD bytes m 0) printed (g .0) (g .1) (λ y h. omega (arith, t .below y h, g .2)) networks (g .2)
 
-  class-2 : (text : List ℕ) (networks : ℕ) → Cycled n rows text networks → Class2 (ofRows n causes stalls) text networks
-  class-2 text networks t = record {
+  class-2 : (bytes : List ℕ) (networks : ℕ) → Cycled n rows bytes networks → Class2 (ofRows n causes stalls) bytes networks
+  class-2 bytes networks t = record {
     none = t .none;
-    cycle = shown-same (Rows n rows) (Waits (ofRows n causes stalls)) (Rows n rows) (Waits (ofRows n causes stalls)) same same text (t .shown);
+    cycle = shown-same (Rows n rows) (Waits (ofRows n causes stalls)) (Rows n rows) (Waits (ofRows n causes stalls)) same same bytes (t .shown);
   }
 
-  pub planned : (old new : List ℕ) (r : RelationsAnswer) → RowsPlan n rows old new r → Planned (ofRows n causes stalls) old new r
+  pub planned : (old new : List ℕ) (r : RelationsAnswer) → WaitsPlan n rows old new r → RelationsPlanned (ofRows n causes stalls) old new r
   planned old new r f = record {
-    text = f .text;
+    written = f .written;
     wrote = f .wrote;
-    class = ⊎-elim (λ t. inl (class-3 (f .text) (r .networks) t)) (λ t. inr (class-2 (f .text) (r .networks) t)) (f .class);
+    class = ⊎-elim (λ t. inl (class-3 (f .written) (r .networks) t)) (λ t. inr (class-2 (f .written) (r .networks) t)) (f .class);
     waits-pairs = pairs-same (Rows n rows) (Waits (ofRows n causes stalls)) same n n (r .pairs) (f .row-pairs .counted);
+    number-0 = f .number-0;
     needed-0 = f .needed-0;
   }
 
@@ -84,19 +84,20 @@ same-waits n causes causes′ stalls stalls′ old rows e f w b c =
 -- ---- what is written
 
 pub wrote-first : (k : ℕ) (old new : List ℕ) → length new ≡ length old → k ≤ length old → drop k new ≡ drop k old → Wrote (take k new) old new k
-wrote-first k old new long fits rest = record {
-  long = sym (length-take-le k new (omega arith));
-  fits = fits;
-  bytes = sym (take-append-drop k new) ∙ ap (λ (t : List ℕ). take k new ++ t) rest;
-}
+wrote-first k old new long fits rest =
+    let e = length-take-le k new (omega arith) in
+    record {
+      count = sym e;
+      bytes = sym (take-append-drop k new) ∙ ap (λ (t : List ℕ). take k new ++ t) (rest ∙ ap (λ (j : ℕ). drop j old) (sym e));
+    }
 
 -- ---- the plan of the rows, from the walks
 
 module _ (n : ℕ) (rows old : List ℕ) (room : n ≤ length old) (sum : ℕ) (counted : RowPairs n rows sum) where
   pub ranked : (new : List ℕ) (k : ℕ) → ¬ (k ≡ 0) → Heights rows n old new k
-      → RowsPlan n rows old new (record { number = 0; length = n; networks = k; needed = 0; pairs = sum })
+      → WaitsPlan n rows old new (record { number = 0; length = n; networks = k; needed = 0; pairs = sum })
   ranked new k g h = record {
-    text = take n new;
+    written = take n new;
     wrote = wrote-first n old new (h .long) room (h .rest g);
     class = inl (
         record {
@@ -112,9 +113,9 @@ module _ (n : ℕ) (rows old : List ℕ) (room : n ≤ length old) (sum : ℕ) (
   }
 
   pub cycled : (mid new : List ℕ) (k len : ℕ) → k ≡ 0 → Heights rows n old mid k → Cycle rows rows n mid new len
-      → RowsPlan n rows old new (record { number = 0; length = len; networks = 0; needed = 0; pairs = sum })
+      → WaitsPlan n rows old new (record { number = 0; length = len; networks = 0; needed = 0; pairs = sum })
   cycled mid new k len e h c = record {
-    text = take len new;
+    written = take len new;
     wrote = wrote-first len old new (c .long ∙ ap length (h .kept e)) (omega (arith, c .fits)) (c .rest ∙ ap (λ (l : List ℕ). drop len l) (h .kept e));
     class = inr (record { none = refl; shown = c .shown found });
     row-pairs = counted;

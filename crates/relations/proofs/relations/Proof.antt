@@ -1,17 +1,15 @@
 -- `relations::relations` meets its contract. Assumes nothing.
-use mathlib.Core.Path.{subst}
+use mathlib.Core.Path.{_≡_, sym, _∙_}
 use lib.ListN.{length}
 use borrow.Author.Needs.{needs}
-use Rattle.relations.specs.call.Call.{FirstOf, checks}
-use Rattle.relations.proofs.call.Calls.{call-refused, call-planned}
+use Rattle.relations.specs.checks.CallChecks.{relationsRefusal}
+use Rattle.relations.proofs.Calls.{call-refused, call-planned}
 use Rattle.relations.proofs.relations.Statement.{statement}
 use Rattle.relations.proofs.relations.Tie as tie
 
--- past the test no check fails
-passed-all : (c : tie.Else1) → let a = c .before .before .before .before .before .args in FirstOf (checks (a .n) (a .causes .now) (a .stalls .now) (length (a .out .now))) 0
-passed-all c =
-    let a = c .before .before .before .before .before .args in
-    subst (FirstOf (checks (a .n) (a .causes .now) (a .stalls .now) (length (a .out .now)))) (c .if1 .left) (c .before .first-check .ensures)
+-- past the test no check is given
+passed-all : (c : tie.Else1) → let a = c .before .before .before .before .before .args in relationsRefusal 4 32 (a .n) (a .causes .now) (a .stalls .now) (length (a .out .now)) .number ≡ 0
+passed-all c = sym (c .before .first-check .ensures) ∙ c .if1 .left
 
 first-check-requires : tie.Need-first-check-requires
 first-check-requires c κs = search needs
@@ -22,7 +20,8 @@ refusal-requires c κs = search needs
 returns : tie.Need-returns
 returns c =
     let a = c .before .before .before .before .before .before .args in
-    call-refused (a .n) (a .causes .now) (a .stalls .now) (a .out .now) (c .refusal .result) (c .before .before .first-check .result) (c .before .before .first-check .ensures) (c .before .if1 .taken) (c .refusal .ensures)
+    let f = c .before .before .first-check in
+    call-refused 4 32 (a .n) (a .causes .now) (a .stalls .now) (a .out .now) (c .refusal .result) (f .result) (f .ensures) (c .before .if1 .taken) (c .refusal .ensures)
 
 plan-tables-requires : tie.Need-plan-tables-requires
 plan-tables-requires c κs = passed-all (c .before)
@@ -34,7 +33,7 @@ returns-2 : tie.Need-returns-2
 returns-2 c =
     let a = c .before .before .before .before .before .before .before .before .before .args in
     let p = c .before .before .plan-tables in
-    call-planned (a .n) (a .causes .now) (a .stalls .now) (a .out .now) (p .result) (p .last .1 .1 .1 .0) (passed-all (c .before .before .before .before)) (p .ensures)
+    call-planned 4 32 (a .n) (a .causes .now) (a .stalls .now) (a .out .now) (p .result) (p .last .1 .1 .1 .0) (passed-all (c .before .before .before .before)) (p .ensures)
 
 pub relations-spec : {M : Type 1} → statement M
 relations-spec =

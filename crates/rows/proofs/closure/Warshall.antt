@@ -6,21 +6,20 @@ use mathlib.Core.List.{List, [], _∷_, _++_}
 use native.Mathlib.Numerals.{add-one}
 use native.Mathlib.Omega.{arith}
 use lib.ListN.{length, getD, set}
-use lib.Bits.{bitOr}
 use Rattle.rules.specs.Walks.{Rel, Chain, Plus}
 use Rattle.rules.proofs.Search.{Via, via-plus, via-trans}
 use Rattle.rows.specs.Rows.{Bit}
-use Rattle.rows.specs.Closure.{Steps, Kept, Closure, Joined, Round}
-use Rattle.rows.proofs.Bits.{bit-or}
-use Rattle.rows.proofs.Filling.{Filling, fill-start, fill-step, fill-kept}
+use Rattle.rows.specs.Row.{Join}
+use Rattle.rows.specs.Closure.{RowStep, KeptFrom, Closure, Joined, Round}
+use Rattle.rows.proofs.FillingRows.{FillingRows, fill-start, fill-step, fill-kept}
 
 -- ---- one row
 
-pub joined-yes : (row other k : ℕ) → Bit row k → Joined row other k (bitOr row other)
-joined-yes row other k b = record {
+pub joined-yes : (row other k r : ℕ) → Bit row k → Join row other r → Joined row other k r
+joined-yes row other k r b u = record {
   bits = λ j. (
-    λ h. ⊎-elim inl (λ x. inr (b, x)) (bit-or row other j .0 h),
-    λ t. bit-or row other j .1 (⊎-elim inl (λ x. inr (x .1)) t),
+    λ h. ⊎-elim inl (λ x. inr (b, x)) (u .bits j .0 h),
+    λ t. u .bits j .1 (⊎-elim inl (λ x. inr (x .1)) t),
   );
 }
 
@@ -36,7 +35,7 @@ Taken given k own a r = Joined (getD given a 0) own k r
 module _ (given : List ℕ) (n k own : ℕ) where
   pub record RoundInv (rows : List ℕ) (i : ℕ) : Type 0 where
     pub is-own : own ≡ getD given k 0
-    pub filling : Filling (Taken given k own) n given rows i
+    pub filling : FillingRows (Taken given k own) n given rows i
 
   pub round-start : own ≡ getD given k 0 → RoundInv given 0
   round-start e = record { is-own = e; filling = fill-start (Taken given k own) n given }
@@ -76,8 +75,8 @@ module _ (R : Rel) (n : ℕ) (starts : (a b : ℕ) → R a b → a < n) where
 module _ (given : List ℕ) (n : ℕ) where
   pub record CloseInv (rows : List ℕ) (k : ℕ) : Type 0 where
     pub at-most : k ≤ n
-    pub each : (i j : ℕ) → i < n → Bit (getD rows i 0) j ↔ Via (Steps n given) k i j
-    pub kept : Kept n given rows
+    pub each : (i j : ℕ) → i < n → Bit (getD rows i 0) j ↔ Via (RowStep n given) k i j
+    pub kept : KeptFrom n given rows
 
   pub close-start : CloseInv given 0
   close-start = record {
@@ -101,8 +100,8 @@ module _ (given : List ℕ) (n : ℕ) where
       let e : k ≡ n = omega (arith, inv .at-most) in
       record {
         reached = λ i j hi. (
-          λ b. via-plus (Steps n given) k i j (inv .each i j hi .0 b),
-          λ w. inv .each i j hi .1 (subst (λ (m : ℕ). Via (Steps n given) m i j) (sym e) (plus-via (Steps n given) n (λ a b s. s .0) i j w)),
+          λ b. via-plus (RowStep n given) k i j (inv .each i j hi .0 b),
+          λ w. inv .each i j hi .1 (subst (λ (m : ℕ). Via (RowStep n given) m i j) (sym e) (plus-via (RowStep n given) n (λ a b s. s .0) i j w)),
         );
         kept = inv .kept;
       }

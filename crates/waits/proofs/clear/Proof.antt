@@ -2,13 +2,13 @@
 use Prim.Native.Nat.{_-_}
 use mathlib.Core.Path.{refl}
 use native.Mathlib.Omega.{arith}
-use Rattle.rows.proofs.Filling.{Filling, fill-start, fill-step, fill-each, fill-kept}
+use Rattle.rows.proofs.FillingRows.{FillingRows, fill-start, fill-step, fill-each, fill-kept}
 use Rattle.waits.proofs.Waiting.{IsZero}
 use Rattle.waits.proofs.clear.Statement.{statement}
 use Rattle.waits.proofs.clear.Tie as tie
 
 abbrev Inv-loop : tie.InvT-loop
-Inv-loop rows₀ n i₀ rows i = Filling IsZero n rows₀ rows i
+Inv-loop rows₀ n i₀ rows i = FillingRows IsZero n rows₀ rows i
 
 abbrev μ-loop : tie.MeasureT-loop
 μ-loop rows₀ n i₀ rows i = n - i

@@ -1,6 +1,6 @@
 -- Rule 5 in rows: what the loops over the messages keep.
 use Prim.Native.Nat.{ℕ, _+_, _<_, _≤_, _^_}
-use mathlib.Core.Path.{_≡_, sym, subst}
+use mathlib.Core.Path.{_≡_, sym, subst, ap, _∙_}
 use mathlib.Core.Bool.{Bool, true, false}
 use mathlib.Core.Logic.{_⊎_, inl, inr, ⊎-elim, _≢_, _↔_}
 use mathlib.Core.List.{List, []}
@@ -11,34 +11,39 @@ use Rattle.rules.specs.Rules.{Mapping, Queues}
 use Rattle.rows.specs.Rows.{Bit, ofRows}
 use Rattle.rows.specs.Row.{With, Join}
 use Rattle.rows.proofs.Bits.{bit-zero}
-use Rattle.rows.proofs.Filling.{Filling, fill-each, fill-kept}
+use Rattle.rows.proofs.Told.{told-false}
+use Rattle.rows.proofs.FillingRows.{FillingRows, fill-each, fill-kept}
 use Rattle.rows.proofs.Together.{Together}
 use Rattle.waits.specs.steps.Steps.{StepsRows, StalledRow, Behind, WithBehind, QueuesRow}
 
 -- all rows are taken in
-pub stalled-end : (stalls : List ℕ) (n all a : ℕ) → n ≤ a → Together stalls n all a → StalledRow stalls n all
+pub stalled-end : (stalls : List ℕ) (n all a : ℕ) → n ≤ a → Together 32 stalls n all a → StalledRow stalls n all
 stalled-end stalls n all a h inv k = (
   λ b. let t = inv .bits k .0 b in (t .0, omega (arith, t .1, inv .at-most), t .2),
   λ t. inv .bits k .1 (t .0, omega (arith, t .1), t .2),
 )
 
 module _ (φ : Mapping) (stalled m : ℕ) where
-  pub behind-yes : (k row r : ℕ) → Behind φ stalled m k → With row k r → WithBehind φ stalled m k row r
-  behind-yes k row r h w j = (λ b. ⊎-elim inl (λ e. inr (e, h)) (w .bits j .0 b), λ x. w .bits j .1 (⊎-elim inl (λ y. inr (y .0)) x))
+  behind-added : (k row r : ℕ) → Behind φ stalled m k → With row k r → WithBehind φ stalled m k row r
+  behind-added k row r h w j = (λ b. ⊎-elim inl (λ e. inr (e, h)) (w .bits j .0 b), λ x. w .bits j .1 (⊎-elim inl (λ y. inr (y .0)) x))
 
   pub behind-no : (k row : ℕ) → ¬ Behind φ stalled m k → WithBehind φ stalled m k row row
   behind-no k row g j = (inl, ⊎-elim (λ b. b) (λ y. absurd (g (y .1))))
 
-  -- they are in two networks
-  pub behind-parted : (k row : ℕ) → φ m ≢ φ k → WithBehind φ stalled m k row row
-  behind-parted k row g = behind-no k row (λ b. g (b .share))
+  -- the places of m and k are `from` and `to`
+  module _ (k row from to : ℕ) (at-m : from ≡ m) (at-k : to ≡ k) where
+    -- they are in two networks
+    pub behind-parted : φ from ≢ φ to → WithBehind φ stalled m k row row
+    behind-parted g = behind-no k row (λ b. g (ap φ at-m ∙ b .share ∙ sym (ap φ at-k)))
 
-  -- the row of stalled messages does not have k
-  pub behind-free : (k row : ℕ) (r : Bool) → (r ≡ true) ↔ Bit stalled k → r ≡ false → WithBehind φ stalled m k row row
-  behind-free k row r f e = behind-no k row (λ b. not-so (f .1 (b .bit)))
-    where
-      not-so : ¬ (r ≡ true)
-      not-so d = absurd (let z : _≡_ {A = ℕ} 0 1 = cc in omega arith)
+    -- the row of stalled messages does not have k
+    pub behind-free : (r : Bool) → (r ≡ true) ↔ Bit stalled to → r ≡ false → WithBehind φ stalled m k row row
+    behind-free r f e = behind-no k row (λ b. told-false (Bit stalled to) r f e (subst (Bit stalled) (sym at-k) (b .bit)))
+
+    pub behind-yes : (r : ℕ) → m ≢ k → φ from ≡ φ to → Bit stalled to → With row to r → WithBehind φ stalled m k row r
+    behind-yes r d e b w =
+        let h : Behind φ stalled m k = record { differ = d; share = sym (ap φ at-m) ∙ e ∙ ap φ at-k; bit = subst (Bit stalled) at-k b } in
+        behind-added k row r h (subst (λ (i : ℕ). With row i r) at-k w)
 
   -- the bits of the row are those below k behind which m queues
   pub record Queueing (k row : ℕ) : Type 0 where
@@ -75,7 +80,7 @@ steps-row waits φ stalled n m q r f j k = (
 )
 
 pub steps-end : (waits stalls : List ℕ) (φ : Mapping) (stalled n : ℕ) (rows : List ℕ) (i : ℕ) → n ≤ i → StalledRow stalls n stalled
-    → Filling (IsSteps waits φ stalled n) n (replicate 32 0) rows i → StepsRows waits stalls φ n rows
+    → FillingRows (IsSteps waits φ stalled n) n (replicate 32 0) rows i → StepsRows waits stalls φ n rows
 steps-end waits stalls φ stalled n rows i h s f = record { bits = bits; kept = fill-kept (IsSteps waits φ stalled n) n (replicate 32 0) rows i h f }
   where
     queues : (m k : ℕ) → m < n → (k < n) × Behind φ stalled m k → Queues (ofRows n [] stalls) φ m k

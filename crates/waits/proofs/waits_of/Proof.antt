@@ -1,4 +1,4 @@
--- `waiting::waits_of` meets its contract.
+-- `waits::waits_of` meets its contract. Assumes nothing.
 use borrow.Author.Needs.{needs}
 use Rattle.waits.proofs.waits_of.Statement.{statement}
 use Rattle.waits.proofs.waits_of.Tie as tie

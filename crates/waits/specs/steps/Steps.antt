@@ -5,9 +5,9 @@ use mathlib.Core.Logic.{_⊎_, _≢_, _↔_}
 use mathlib.Core.List.{List, []}
 use lib.ListN.{getD, replicate}
 use Rattle.rules.specs.declared.Network.{Network}
-use Rattle.rules.specs.Rules.{Mapping, Queues}
+use Rattle.rules.specs.Rules.{MessageNo, Mapping, Queues}
 use Rattle.rows.specs.Rows.{Bit, ofRows}
-use Rattle.rows.specs.Closure.{Kept}
+use Rattle.rows.specs.Closure.{KeptFrom}
 
 -- The mapping that these networks give: message m is in the network at place m.
 abbrev pub mappingOf : List Network → Mapping
@@ -16,25 +16,25 @@ mappingOf networks m = getD networks m (record { 0 = 0 }) .0
 -- Rules 4 and 5: bit k of row m says that m waits for k or queues behind k. Rule 5 asks for the rows of stalls only.
 -- These are the first n of 32 rows, and the others are 0.
 pub record StepsRows (waits stalls : List ℕ) (φ : Mapping) (n : ℕ) (rows : List ℕ) : Type 0 where
-  pub bits : (m k : ℕ) → m < n → Bit (getD rows m 0) k ↔ (Bit (getD waits m 0) k ⊎ Queues (ofRows n [] stalls) φ m k)
-  pub kept : Kept n (replicate 32 0) rows
+  pub bits : (m k : MessageNo) → m < n → Bit (getD rows m 0) k ↔ (Bit (getD waits m 0) k ⊎ Queues (ofRows n [] stalls) φ m k)
+  pub kept : KeptFrom n (replicate 32 0) rows
 
 -- ---- what the loops gather
 
 -- The bits of r are the messages that something stalls.
 abbrev pub StalledRow : List ℕ → ℕ → ℕ → Type 0
-StalledRow stalls n r = (k : ℕ) → Bit r k ↔ ((a : ℕ) × (a < n) × Bit (getD stalls a 0) k)
+StalledRow stalls n r = (k : MessageNo) → Bit r k ↔ ((a : MessageNo) × (a < n) × Bit (getD stalls a 0) k)
 
 -- m queues behind k, where the bits of `stalled` are the messages that something stalls.
-pub record Behind (φ : Mapping) (stalled m k : ℕ) : Type 0 where
+pub record Behind (φ : Mapping) (stalled : ℕ) (m k : MessageNo) : Type 0 where
   pub differ : m ≢ k
   pub share : φ m ≡ φ k
   pub bit : Bit stalled k
 
 -- The row with k, if m queues behind k.
-abbrev pub WithBehind : Mapping → ℕ → ℕ → ℕ → ℕ → ℕ → Type 0
-WithBehind φ stalled m k row r = (j : ℕ) → Bit r j ↔ (Bit row j ⊎ ((j ≡ k) × Behind φ stalled m k))
+abbrev pub WithBehind : Mapping → ℕ → MessageNo → MessageNo → ℕ → ℕ → Type 0
+WithBehind φ stalled m k row r = (j : MessageNo) → Bit r j ↔ (Bit row j ⊎ ((j ≡ k) × Behind φ stalled m k))
 
 -- The bits of r are the messages, of the first n, behind which m queues.
-abbrev pub QueuesRow : Mapping → ℕ → ℕ → ℕ → ℕ → Type 0
-QueuesRow φ stalled n m r = (k : ℕ) → Bit r k ↔ ((k < n) × Behind φ stalled m k)
+abbrev pub QueuesRow : Mapping → ℕ → ℕ → MessageNo → ℕ → Type 0
+QueuesRow φ stalled n m r = (k : MessageNo) → Bit r k ↔ ((k < n) × Behind φ stalled m k)

@@ -1,7 +1,7 @@
 -- The table of layers: from which numbers x is reached in how many steps.
 use Prim.Native.Nat.{ℕ, zero, suc, _+_, _<_, _≤_}
 use mathlib.Core.Path.{_≡_, _∙_}
-use mathlib.Core.Logic.{_↔_}
+use mathlib.Core.Logic.{inr, ⊎-elim, _↔_}
 use mathlib.Core.List.{List}
 use native.Mathlib.Decide.{ℕ-discrete}
 use native.Mathlib.Omega.{arith}
@@ -10,6 +10,8 @@ use lib.ListN.{length, getD, set, length-set}
 use lib.Seq.{getD-set-same, getD-set-other}
 use Rattle.rules.specs.Walks.{Exactly}
 use Rattle.rows.specs.Rows.{Bit, Rows}
+use Rattle.rows.specs.Row.{With}
+use Rattle.rows.proofs.Bits.{bit-zero}
 use Rattle.walks.specs.Sets.{Into, Layers}
 
 pub exactly-small : (s : List ℕ) (n k y x : ℕ) → x < n → Exactly (Rows n s) k y x → y < n
@@ -29,9 +31,12 @@ module _ (s : List ℕ) (n x : ℕ) where
     pub now-is : Layer k now
     pub layers : Layers s n x (k + 1) sets
 
-  pub layers-start : (sets : List ℕ) (v : ℕ) → length sets ≡ 32 → ((y : ℕ) → Bit v y ↔ (y ≡ x)) → LayersInv (set sets 0 v) v 0
-  layers-start sets v e f = record { room = length-set sets 0 v ∙ e; small = omega arith; now-is = f; layers = first }
+  pub layers-start : (sets : List ℕ) (v : ℕ) → length sets ≡ 32 → With 0 x v → LayersInv (set sets 0 v) v 0
+  layers-start sets v e only = record { room = length-set sets 0 v ∙ e; small = omega arith; now-is = f; layers = first }
     where
+      f : Layer 0 v
+      f y = (λ b. ⊎-elim (λ z. absurd (bit-zero y z)) (λ q. q) (only .bits y .0 b), λ q. only .bits y .1 (inr q))
+
       first : Layers s n x (0 + 1) (set sets 0 v)
       first zero h = rw (getD-set-same sets 0 v 0 (omega arith)) f
       first (suc k) h = absurd (omega arith)

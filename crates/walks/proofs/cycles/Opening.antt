@@ -1,18 +1,17 @@
 -- One start x of closed walks: how short they are.
-use Prim.Native.Nat.{ℕ, zero, suc, _+_, _-_, _<_, _≤_, _/_, _^_}
+use Prim.Native.Nat.{ℕ, zero, suc, _+_, _-_, _<_, _≤_}
 use mathlib.Core.Path.{_≡_, refl, subst}
-use mathlib.Core.Logic.{_↔_}
+use mathlib.Core.Logic.{_≢_, _↔_}
 use mathlib.Core.List.{List}
 use native.Mathlib.Decide.{ℕ-discrete, decLe}
 use native.Mathlib.Omega.{arith}
 use native.Mathlib.Numerals.{add-one}
 use lib.ListN.{getD}
-use lib.Bits.{bitAnd}
 use Rattle.rules.specs.Walks.{Rel, Exactly}
 use Rattle.rows.specs.Rows.{Bit, Rows}
-use Rattle.rows.proofs.Bits.{bit-zero, bit-and, bit-test}
-use Rattle.walks.specs.Sets.{Below, After, Goes, Opens, Shortest}
-use Rattle.walks.proofs.Sets.{all-bits}
+use Rattle.rows.specs.Row.{Meet, AllBelow}
+use Rattle.rows.proofs.Bits.{bit-zero}
+use Rattle.walks.specs.Sets.{Below, After, Reaches, ClosedFrom, Shortest}
 
 -- ---- exactly k steps, with a step more at the end
 
@@ -34,29 +33,29 @@ module _ (R : Rel) where
 -- ---- the loop of `shortest`
 
 module _ (w s : List ℕ) (n x : ℕ) where
-  goes-small : (k v : ℕ) → Goes w s n x k v → v < n
+  goes-small : (k v : ℕ) → Reaches w s n x k v → v < n
   goes-small zero v t = rw (← (t .2)) (t .1 .j-below)
   goes-small (suc k) v t = exactly-last (Rows n s) k (t .0) v (t .2) .2 .j-below
 
   -- the row has the numbers that are reached by a step of w and k steps of s
   abbrev Front : ℕ → ℕ → Type 0
-  Front k row = (v : ℕ) → Bit row v ↔ Goes w s n x k v
+  Front k row = (v : ℕ) → Bit row v ↔ Reaches w s n x k v
 
   pub record ShortInv (most now k : ℕ) : Type 0 where
     pub at-most : k < most
     pub now-is : Front k now
-    pub none : (j : ℕ) → j < k → ¬ Opens w s n x j
+    pub none : (j : ℕ) → j < k → ¬ ClosedFrom w s n x j
 
   -- no walk is looked for
   pub short-off : (most : ℕ) → most ≡ 0 → Shortest w s n x most 0
   short-off most z = record { fits = omega arith; none = λ _ k h. absurd (omega arith); opens = λ d. absurd (d refl); none-shorter = λ d. absurd (d refl) }
 
-  pub short-start : (most : ℕ) → n ≤ 32 → x < n → ¬ (most ≡ 0) → ShortInv most (bitAnd (getD w x 0) (4294967295 / 2 ^ (32 - n))) 0
-  short-start most h hx d = record {
+  pub short-start : (most all row : ℕ) → x < n → most ≢ 0 → AllBelow n all → Meet (getD w x 0) all row → ShortInv most row 0
+  short-start most all row hx d below both = record {
     at-most = omega arith;
     now-is = λ v. (
-      λ b. let t = bit-and (getD w x 0) (4294967295 / 2 ^ (32 - n)) v .0 b in (v, record { i-below = hx; j-below = all-bits n h v .0 (t .1); bit = t .0 }, refl),
-      λ t. rw (← (t .2)) (bit-and (getD w x 0) (4294967295 / 2 ^ (32 - n)) (t .0) .1 (t .1 .bit, all-bits n h (t .0) .1 (t .1 .j-below))),
+      λ b. let t = both .bits v .0 b in (v, record { i-below = hx; j-below = below .bits v .0 (t .1); bit = t .0 }, refl),
+      λ t. rw (← (t .2)) (both .bits (t .0) .1 (t .1 .bit, below .bits (t .0) .1 (t .1 .j-below))),
     );
     none = λ j q. absurd (omega arith);
   }
@@ -66,29 +65,29 @@ module _ (w s : List ℕ) (n x : ℕ) where
     front-below z b = goes-small k z (inv .now-is z .0 b)
 
     -- the walk is closed
-    pub short-found : ¬ (bitAnd (now / 2 ^ x) 1 ≡ 0) → Shortest w s n x most (k + 1)
-    short-found d =
+    pub short-found : Bit now x → Shortest w s n x most (k + 1)
+    short-found b =
         let q : k ≡ k + 1 - 1 = omega arith in
         record {
           fits = omega (arith, inv .at-most);
           none = λ z. absurd (omega (arith, z));
-          opens = λ _. subst (Opens w s n x) q (inv .now-is x .0 (omega (arith, bit-test now x, d)));
+          opens = λ _. subst (ClosedFrom w s n x) q (inv .now-is x .0 b);
           none-shorter = λ _ j h. inv .none j (omega arith);
         }
 
-    module _ (apart : bitAnd (now / 2 ^ x) 1 ≡ 0) where
-      none-yet : (j : ℕ) → j ≤ k → ¬ Opens w s n x j
+    module _ (apart : ¬ Bit now x) where
+      none-yet : (j : ℕ) → j ≤ k → ¬ ClosedFrom w s n x j
       none-yet j h = go (ℕ-discrete j k)
         where
-          go : Dec (j ≡ k) → ¬ Opens w s n x j
-          go (yes e) = rw e (λ t. absurd (omega (arith, inv .now-is x .1 t, bit-test now x, apart)))
+          go : Dec (j ≡ k) → ¬ ClosedFrom w s n x j
+          go (yes e) = rw e (λ t. apart (inv .now-is x .1 t))
           go (no d) = inv .none j (omega arith)
 
       -- no step leads on
       pub short-empty : now ≡ 0 → Shortest w s n x most 0
       short-empty z = record { fits = omega arith; none = λ _ j h. go j (decLe j k); opens = λ d. absurd (d refl); none-shorter = λ d. absurd (d refl) }
         where
-          go : (j : ℕ) → Dec (j ≤ k) → ¬ Opens w s n x j
+          go : (j : ℕ) → Dec (j ≤ k) → ¬ ClosedFrom w s n x j
           go j (yes h) = none-yet j h
           go j (no h) = λ t.
               let u = exactly-part (Rows n s) k j (t .0) x (omega arith) (t .2) in

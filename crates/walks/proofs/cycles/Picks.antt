@@ -1,20 +1,19 @@
 -- Writing the shown cycle, number by number.
-use Prim.Native.Nat.{ℕ, zero, suc, _+_, _-_, _<_, _≤_, _^_}
+use Prim.Native.Nat.{ℕ, zero, suc, _+_, _-_, _<_, _≤_}
 use mathlib.Core.Path.{_≡_, refl, sym, subst, ap, _∙_}
-use mathlib.Core.Logic.{_↔_}
+use mathlib.Core.Logic.{_≢_, _↔_}
 use mathlib.Core.List.{List, [], _∷_}
 use native.Mathlib.Decide.{ℕ-discrete}
 use native.Mathlib.Omega.{arith}
 use native.Mathlib.Numerals.{add-one}
 use lib.ListN.{length, getD, set, take, drop, length-set}
 use lib.Seq.{getD-set-same, getD-set-other, getD-take, length-take-le, drop-set-lt}
-use lib.Count.{trailingZeros}
-use lib.Bits.{bitAnd, and-le-l}
 use Rattle.rules.specs.Walks.{Rel, Exactly}
 use Rattle.rules.specs.Plan.{Shown}
 use Rattle.rules.proofs.Picked.{StepAt, picked-shown}
 use Rattle.rows.specs.Rows.{Bit, Rows}
-use Rattle.rows.proofs.Bits.{bit-and, lowest, meet-no}
+use Rattle.rows.specs.Row.{Meet, Lowest}
+use Rattle.rows.proofs.Bits.{meet-none}
 use Rattle.walks.specs.Walks.{Within}
 use Rattle.walks.specs.Sets.{FoundAt, Drawn}
 use Rattle.walks.proofs.cycles.Layering.{Layer, exactly-small}
@@ -34,7 +33,6 @@ module _ (w s : List ℕ) (n len x : ℕ) where
     pub at-most : i ≤ len
     pub same-length : length out ≡ length old
     pub rest : drop len out ≡ drop len old
-    pub row-small : row < 2 ^ 32
     pub head : getD out 0 0 ≡ x
     pub steps : (j : ℕ) → j < prev → StepAt (W w s n) (S w s n) j (getD out j 0) (getD out (suc j) 0)
     pub least : (j : ℕ) → j < prev → (z : ℕ) → StepAt (W w s n) (S w s n) j (getD out j 0) z → Exactly (S w s n) (len - suc j) z x → getD out (suc j) 0 ≤ z
@@ -42,8 +40,8 @@ module _ (w s : List ℕ) (n len x : ℕ) where
     pub next : (z : ℕ) × StepAt (W w s n) (S w s n) prev (getD out prev 0) z × Exactly (S w s n) (len - i) z x
 
 module _ (w s : List ℕ) (n len x : ℕ) (hx : x < n) where
-  pub picks-start : (out : List ℕ) → 1 ≤ len → 1 ≤ length out → getD w x 0 < 2 ^ 32 → FoundAt w s n len x → PicksInv w s n len x (set out 0 x) (set out 0 x) (getD w x 0) 1
-  picks-start out h k hr f =
+  pub picks-start : (out : List ℕ) → 1 ≤ len → 1 ≤ length out → FoundAt w s n len x → PicksInv w s n len x (set out 0 x) (set out 0 x) (getD w x 0) 1
+  picks-start out h k f =
       let e : getD (set out 0 x) 0 0 ≡ x = getD-set-same out 0 x 0 k in
       record {
         prev = 0;
@@ -51,7 +49,6 @@ module _ (w s : List ℕ) (n len x : ℕ) (hx : x < n) where
         at-most = h;
         same-length = refl;
         rest = refl;
-        row-small = hr;
         head = e;
         steps = λ j q. absurd (omega arith);
         least = λ j q. absurd (omega arith);
@@ -59,23 +56,18 @@ module _ (w s : List ℕ) (n len x : ℕ) (hx : x < n) where
         next = rw e (f .opens);
       }
 
-  module _ (old out : List ℕ) (row i l : ℕ) (hl : len ≤ length old) (hi : i < len) (layer : Layer s n x (len - i) l) (inv : PicksInv w s n len x old out row i) where
-    abbrev both : ℕ
-    both = bitAnd row l
+  -- some number follows
+  pub picks-some : (old out : List ℕ) (row i l both : ℕ) → Layer s n x (len - i) l → Meet row l both → PicksInv w s n len x old out row i → both ≢ 0
+  picks-some old out row i l both layer meet inv e =
+      let t = inv .next in
+      let small = exactly-small s n (len - i) (t .0) x hx (t .2) in
+      meet-none row l both meet e (t .0) (inv .row-is (t .0) small .1 (t .1)) (layer (t .0) .1 (t .2))
 
-    some : ¬ (both ≡ 0)
-    some e =
-        let t = inv .next in
-        let small = exactly-small s n (len - i) (t .0) x hx (t .2) in
-        meet-no row l e (t .0) (inv .row-is (t .0) small .1 (t .1)) (layer (t .0) .1 (t .2))
-
-    abbrev pub chosen : ℕ
-    chosen = trailingZeros 32 both
-
+  -- the lowest of them is chosen
+  module _ (old out : List ℕ) (row i l both chosen : ℕ) (hl : len ≤ length old) (hi : i < len) (layer : Layer s n x (len - i) l) (meet : Meet row l both) (low : Lowest 32 both chosen) (inv : PicksInv w s n len x old out row i) where
     pub chosen-is : (chosen < n) × StepAt (W w s n) (S w s n) (inv .prev) (getD out (inv .prev) 0) chosen × Exactly (S w s n) (len - i) chosen x
     chosen-is =
-        let t = lowest 32 both (omega (arith, and-le-l row l, inv .row-small)) some in
-        let u = bit-and row l chosen .0 (t .1) in
+        let u = meet .bits chosen .0 (low .bit) in
         let e = layer chosen .0 (u .1) in
         let small = exactly-small s n (len - i) chosen x hx e in
         (small, inv .row-is chosen small .0 (u .0), e)
@@ -83,7 +75,7 @@ module _ (w s : List ℕ) (n len x : ℕ) (hx : x < n) where
     chosen-least : (z : ℕ) → StepAt (W w s n) (S w s n) (inv .prev) (getD out (inv .prev) 0) z → Exactly (S w s n) (len - i) z x → chosen ≤ z
     chosen-least z a e =
         let small = exactly-small s n (len - i) z x hx e in
-        lowest 32 both (omega (arith, and-le-l row l, inv .row-small)) some .2 z (bit-and row l z .1 (inv .row-is z small .1 a, layer z .1 e))
+        low .least z (meet .bits z .1 (inv .row-is z small .1 a, layer z .1 e))
 
     stays : (j : ℕ) → j < i → getD (set out i chosen) j 0 ≡ getD out j 0
     stays j h = getD-set-other out i j chosen 0 (λ e. absurd (omega (arith, e)))
@@ -94,14 +86,13 @@ module _ (w s : List ℕ) (n len x : ℕ) (hx : x < n) where
     new′ : getD (set out i chosen) (suc (inv .prev)) 0 ≡ chosen
     new′ = ap (λ (k : ℕ). getD (set out i chosen) k 0) (sym (inv .is)) ∙ new
 
-    pub picks-step : getD s chosen 0 < 2 ^ 32 → PicksInv w s n len x old (set out i chosen) (getD s chosen 0) (i + 1)
-    picks-step hs = record {
+    pub picks-step : PicksInv w s n len x old (set out i chosen) (getD s chosen 0) (i + 1)
+    picks-step = record {
       prev = i;
       is = add-one i;
       at-most = omega arith;
       same-length = length-set out i chosen ∙ inv .same-length;
       rest = drop-set-lt len out i chosen hi ∙ inv .rest;
-      row-small = hs;
       head = stays 0 (omega (arith, inv .is)) ∙ inv .head;
       steps = λ j h. stepped j (omega (arith, inv .is)) (ℕ-discrete j (inv .prev));
       least = λ j h. leastly j (omega (arith, inv .is)) (ℕ-discrete j (inv .prev));

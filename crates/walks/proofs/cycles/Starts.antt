@@ -13,19 +13,19 @@ use Rattle.rules.proofs.Cycle.{shown?}
 use Rattle.rows.specs.Rows.{Rows}
 use Rattle.rows.proofs.Given.{rows?}
 use Rattle.walks.specs.Walks.{Cycle}
-use Rattle.walks.specs.Sets.{Opens, Shortest, FoundAt, Drawn}
+use Rattle.walks.specs.Sets.{ClosedFrom, Shortest, FoundAt, Drawn}
 
 -- The best of the starts below x: a closed walk of len steps begins at `start`, and at no lower number one so short.
 pub record Best (w s : List ℕ) (n x start len : ℕ) : Type 0 where
   pub before-x : start < x
-  pub opens : Opens w s n start (len - 1)
-  pub least : (a : ℕ) → a < start → ¬ Opens w s n a (len - 1)
+  pub opens : ClosedFrom w s n start (len - 1)
+  pub least : (a : ℕ) → a < start → ¬ ClosedFrom w s n a (len - 1)
 
 -- No start below x has a closed walk of at most `most` steps. Where len is not 0, one of len = `most` + 1 steps was found.
 pub record StartsInv (w s : List ℕ) (n len start most x : ℕ) : Type 0 where
   pub at-most : x ≤ n
   pub most-small : most ≤ n
-  pub none : (a : ℕ) → a < x → (k : ℕ) → k < most → ¬ Opens w s n a k
+  pub none : (a : ℕ) → a < x → (k : ℕ) → k < most → ¬ ClosedFrom w s n a k
   pub nothing : len ≡ 0 → most ≡ n
   pub length-is : ¬ (len ≡ 0) → len ≡ suc most
   pub len-small : len ≤ n
@@ -56,7 +56,7 @@ module _ (w s : List ℕ) (n : ℕ) where
       some = λ d. let b = inv .some d in record { before-x = omega (arith, b .before-x); opens = b .opens; least = b .least };
     }
       where
-        go : (a : ℕ) → a < x + 1 → Dec (a ≡ x) → (k : ℕ) → k < most → ¬ Opens w s n a k
+        go : (a : ℕ) → a < x + 1 → Dec (a ≡ x) → (k : ℕ) → k < most → ¬ ClosedFrom w s n a k
         go a h (yes e) = rw e (short .none z)
         go a h (no d) = inv .none a (omega arith)
 
@@ -76,12 +76,12 @@ module _ (w s : List ℕ) (n : ℕ) where
       };
     }
       where
-        go : (a : ℕ) → a < x + 1 → Dec (a ≡ x) → (k : ℕ) → k < r - 1 → ¬ Opens w s n a k
+        go : (a : ℕ) → a < x + 1 → Dec (a ≡ x) → (k : ℕ) → k < r - 1 → ¬ ClosedFrom w s n a k
         go a h (yes e) k q = rw e (short .none-shorter d k (omega arith))
         go a h (no f) k q = inv .none a (omega arith) k (omega (arith, short .fits))
 
   -- a closed walk opens at its first number
-  opened : (m : List ℕ) → Closed (Rows n w) (Rows n s) m → (1 ≤ length m) × (getD m 0 0 < n) × Opens w s n (getD m 0 0) (length m - 1)
+  opened : (m : List ℕ) → Closed (Rows n w) (Rows n s) m → (1 ≤ length m) × (getD m 0 0 < n) × ClosedFrom w s n (getD m 0 0) (length m - 1)
   opened [] c = absurd c
   opened (a ∷ []) c = (omega arith, c .0 .i-below, (a, c .0, refl))
   opened (a ∷ (b ∷ l)) c = (omega arith, c .0 .i-below, (b, c .0, subst (λ (k : ℕ). Exactly (Rows n s) k b a) (left l) (chain-exactly (Rows n s) b a l (c .1 .1))))
@@ -114,7 +114,7 @@ module _ (w s : List ℕ) (n : ℕ) where
       where
         before : (m : List ℕ) → Closed (Rows n w) (Rows n s) m → length m ≡ len → Dec (getD m 0 0 < start) → start ≤ getD m 0 0
         before m c e (no h) = omega arith
-        before m c e (yes h) = absurd (inv .some d .least (getD m 0 0) h (subst (λ (k : ℕ). Opens w s n (getD m 0 0) (k - 1)) e (opened m c .2)))
+        before m c e (yes h) = absurd (inv .some d .least (getD m 0 0) h (subst (λ (k : ℕ). ClosedFrom w s n (getD m 0 0) (k - 1)) e (opened m c .2)))
 
   pub cycle-none : (old : List ℕ) → ((m : List ℕ) → ¬ Closed (Rows n w) (Rows n s) m) → Cycle w s n old old 0
   cycle-none old f = record { long = refl; fits = omega arith; none = λ _. f; shown = λ d. absurd (d refl); rest = refl }

@@ -1,5 +1,5 @@
 -- Heights: what the loops keep, and that the table of sets gives the heights.
-use Prim.Native.Nat.{ℕ, zero, suc, _+_, _-_, _<_, _≤_, _/_, _^_}
+use Prim.Native.Nat.{ℕ, zero, suc, _+_, _-_, _<_, _≤_, _^_}
 use mathlib.Core.Path.{_≡_, refl, sym, subst, ap, _∙_}
 use mathlib.Core.Logic.{_⊎_, inl, inr, _↔_}
 use mathlib.Core.List.{List, [], _∷_, _++_}
@@ -9,8 +9,6 @@ use native.Mathlib.Nat.{zero-add, suc-add}
 use native.Mathlib.Numerals.{add-one}
 use lib.ListN.{length, getD, set, drop, length-set}
 use lib.Seq.{getD-set-same, getD-set-other, drop-set-lt}
-use lib.Bits.{bitAnd}
-use lib.Count.{trailingZeros}
 use Rattle.rules.specs.Lists.{Distinct}
 use Rattle.rules.specs.Walks.{Rel, Chain, Plus}
 use Rattle.rules.specs.Plan.{Height}
@@ -18,44 +16,45 @@ use Rattle.rules.proofs.Pigeon.{at-most}
 use Rattle.rules.proofs.Cycle.{distinct-or, Repeat, chain-left, chain-right}
 use Rattle.rules.proofs.Heights.{chain-in}
 use Rattle.rows.specs.Rows.{Bit, Rows}
-use Rattle.rows.proofs.Bits.{bit-zero, bit-test, lowest}
+use Rattle.rows.specs.Row.{AllBelow}
+use Rattle.rows.proofs.Bits.{bit-zero, some-bit}
 use Rattle.walks.specs.Walks.{Heights}
-use Rattle.walks.specs.Sets.{Into, Steps, Levels, Rounds, Sinks, Last, Written}
+use Rattle.walks.specs.Sets.{Into, StepsFrom, Levels, Rounds, Sinks, LastSet, Written}
 
 -- ---- chains of k steps
 
 module _ (R : Rel) (n : ℕ) (within : (a b : ℕ) → R a b → (a < n) × (b < n)) where
-  steps-chain : (k m : ℕ) → Steps R n k m → (l : List ℕ) × Chain R m l × (length l ≡ k)
+  steps-chain : (k m : ℕ) → StepsFrom R n k m → (l : List ℕ) × Chain R m l × (length l ≡ k)
   steps-chain zero m s = ([], tt, refl)
   steps-chain (suc k) m s = let t = steps-chain k (s .0) (s .2) in (s .0 ∷ t .0, (s .1, t .1), ap suc (t .2))
 
-  chain-steps : (m : ℕ) (l : List ℕ) → m < n → Chain R m l → Steps R n (length l) m
+  chain-steps : (m : ℕ) (l : List ℕ) → m < n → Chain R m l → StepsFrom R n (length l) m
   chain-steps m [] h c = h
   chain-steps m (b ∷ l) h c = (b, c .0, chain-steps b l (within m b (c .0) .1) (c .1))
 
-  steps-small : (k m : ℕ) → Steps R n k m → m < n
+  steps-small : (k m : ℕ) → StepsFrom R n k m → m < n
   steps-small zero m s = s
   steps-small (suc k) m s = within m (s .0) (s .1) .0
 
-  steps-pred : (k m : ℕ) → Steps R n (suc k) m → Steps R n k m
+  steps-pred : (k m : ℕ) → StepsFrom R n (suc k) m → StepsFrom R n k m
   steps-pred zero m s = within m (s .0) (s .1) .0
   steps-pred (suc k) m s = (s .0, s .1, steps-pred k (s .0) (s .2))
 
-  steps-less : (i k m : ℕ) → i ≤ k → Steps R n k m → Steps R n i m
-  steps-less i zero m h s = subst (λ (j : ℕ). Steps R n j m) (zero-is i h) s
+  steps-less : (i k m : ℕ) → i ≤ k → StepsFrom R n k m → StepsFrom R n i m
+  steps-less i zero m h s = subst (λ (j : ℕ). StepsFrom R n j m) (zero-is i h) s
     where
       zero-is : (i : ℕ) → i ≤ 0 → 0 ≡ i
       zero-is i h = omega arith
   steps-less i (suc k) m h s = go (λ q. steps-less i k m q (steps-pred k m s)) (ℕ-discrete i (suc k))
     where
-      go : (i ≤ k → Steps R n i m) → Dec (i ≡ suc k) → Steps R n i m
+      go : (i ≤ k → StepsFrom R n i m) → Dec (i ≡ suc k) → StepsFrom R n i m
       go f (yes e) = rw e s
       go f (no d) = f (omega arith)
 
   -- where a round loses nobody, none of the later ones does
-  steps-stay : (k : ℕ) → ((m : ℕ) → Steps R n k m → Steps R n (suc k) m) → (j m : ℕ) → Steps R n k m → Steps R n (j + k) m
-  steps-stay k f zero m s = subst (λ (i : ℕ). Steps R n i m) (sym (zero-add k)) s
-  steps-stay k f (suc j) m s = let t = f m s in subst (λ (i : ℕ). Steps R n i m) (sym (suc-add j k)) (t .0, t .1, steps-stay k f j (t .0) (t .2))
+  steps-stay : (k : ℕ) → ((m : ℕ) → StepsFrom R n k m → StepsFrom R n (suc k) m) → (j m : ℕ) → StepsFrom R n k m → StepsFrom R n (j + k) m
+  steps-stay k f zero m s = subst (λ (i : ℕ). StepsFrom R n i m) (sym (zero-add k)) s
+  steps-stay k f (suc j) m s = let t = f m s in subst (λ (i : ℕ). StepsFrom R n i m) (sym (suc-add j k)) (t .0, t .1, steps-stay k f j (t .0) (t .2))
 
   abbrev ChainL : List ℕ → Type 0
   ChainL [] = Unit {0}
@@ -66,7 +65,7 @@ module _ (R : Rel) (n : ℕ) (within : (a b : ℕ) → R a b → (a < n) × (b <
   goes-round (a ∷ u) x v w c = (v, chain-left R x x v w (chain-right R a x u (v ++ x ∷ w) c))
 
   -- a chain with as many steps as there are numbers goes round
-  long-cycle : (m : ℕ) → Steps R n n m → (a : ℕ) × Plus R a a
+  long-cycle : (m : ℕ) → StepsFrom R n n m → (a : ℕ) × Plus R a a
   long-cycle m s = go (distinct-or (m ∷ t .0))
     where
       t : (l : List ℕ) × Chain R m l × (length l ≡ n)
@@ -83,7 +82,7 @@ rows-within n w a b r = (r .i-below, r .j-below)
 
 module _ (w : List ℕ) (n : ℕ) where
   abbrev Can : ℕ → ℕ → Type 0
-  Can k m = Steps (Rows n w) n k m
+  Can k m = StepsFrom (Rows n w) n k m
 
   abbrev Are : ℕ → ℕ → Type 0
   Are row k = (m : ℕ) → Bit row m ↔ Can k m
@@ -95,17 +94,17 @@ module _ (w : List ℕ) (n : ℕ) where
     pub sets-are : (j : ℕ) → j ≤ k → Are (getD sets j 0) j
     pub some : (m : ℕ) × Can k m
 
-  pub rounds-start : (sets : List ℕ) (v : ℕ) → 1 ≤ n → length sets ≡ 33 → ((m : ℕ) → Bit v m ↔ (m < n)) → RoundsInv (set sets 0 v) v 0
+  pub rounds-start : (sets : List ℕ) (v : ℕ) → 1 ≤ n → length sets ≡ 33 → AllBelow n v → RoundsInv (set sets 0 v) v 0
   rounds-start sets v h q f = record {
     at-most = omega arith;
     room = length-set sets 0 v ∙ q;
-    now-is = f;
+    now-is = f .bits;
     sets-are = first;
     some = (0, omega arith);
   }
     where
       first : (j : ℕ) → j ≤ 0 → Are (getD (set sets 0 v) j 0) j
-      first zero k = rw (getD-set-same sets 0 v 0 (omega arith)) f
+      first zero k = rw (getD-set-same sets 0 v 0 (omega arith)) (f .bits)
       first (suc j) k = absurd (omega arith)
 
   next-are : (now next k : ℕ) → Are now k → Into w n now next → Are next (suc k)
@@ -159,12 +158,12 @@ module _ (w : List ℕ) (n : ℕ) where
         same j q = omega (arith, q)
 
     pub rounds-step : next < 2 ^ 32 → ¬ (next ≡ 0) → RoundsInv sets′ next (k + 1)
-    rounds-step small d = record {
+    rounds-step small d = let b = some-bit 32 next small d in record {
       at-most = omega arith;
       room = length-set sets (k + 1) next ∙ inv .room;
       now-is = rw (add-one k) (next-are now next k (inv .now-is) i);
       sets-are = kept;
-      some = (trailingZeros 32 next, rw (add-one k) (next-are now next k (inv .now-is) i (trailingZeros 32 next) .0 (lowest 32 next small d .1)));
+      some = (b .0, rw (add-one k) (next-are now next k (inv .now-is) i (b .0) .0 (b .1)));
     }
 
   -- somebody is left at round n
@@ -187,35 +186,35 @@ module _ (sets : List ℕ) (m : ℕ) where
       none : (j : ℕ) → j ≤ 0 → j ≡ 0
       none j q = omega arith
 
-  pub last-step : (h : ℕ) → Sinks sets → bitAnd (getD sets (h + 1) 0 / 2 ^ m) 1 ≡ 1 → LastInv sets m h → LastInv sets m (h + 1)
+  pub last-step : (h : ℕ) → Sinks sets → Bit (getD sets (h + 1) 0) m → LastInv sets m h → LastInv sets m (h + 1)
   last-step h sinks e inv = record { small = go (decLt (h + 1) 32); in-it = more }
     where
       more : (j : ℕ) → j ≤ h + 1 → Bit (getD sets j 0) m
       more j q = pick (ℕ-discrete j (h + 1))
         where
           pick : Dec (j ≡ h + 1) → Bit (getD sets j 0) m
-          pick (yes f) = rw f (sym (bit-test (getD sets (h + 1) 0) m) ∙ e)
+          pick (yes f) = rw f e
           pick (no d) = inv .in-it j (omega arith)
 
       go : Dec (h + 1 < 32) → h + 1 < 32
       go (yes l) = l
       go (no l) = absurd (bit-zero m (subst (λ (r : ℕ). Bit r m) (sinks .2) (more (sinks .0) (omega (arith, sinks .1)))))
 
-  pub last-end : (h : ℕ) → ¬ (bitAnd (getD sets (h + 1) 0 / 2 ^ m) 1 ≡ 1) → LastInv sets m h → Last sets m h
-  last-end h d inv = record { small = inv .small; in-it = inv .in-it; not-next = λ b. d (bit-test (getD sets (h + 1) 0) m ∙ b) }
+  pub last-end : (h : ℕ) → ¬ Bit (getD sets (h + 1) 0) m → LastInv sets m h → LastSet sets m h
+  last-end h d inv = record { small = inv .small; in-it = inv .in-it; not-next = d }
 
 -- ---- the loop of `write`
 
 pub record WriteInv (sets : List ℕ) (n : ℕ) (old new : List ℕ) (m : ℕ) : Type 0 where
   pub at-most : m ≤ n
   pub same-length : length new ≡ length old
-  pub done : (j : ℕ) → j < m → Last sets j (getD new j 0)
+  pub done : (j : ℕ) → j < m → LastSet sets j (getD new j 0)
   pub rest : drop n new ≡ drop n old
 
 pub write-start : (sets : List ℕ) (n : ℕ) (old : List ℕ) → WriteInv sets n old old 0
 write-start sets n old = record { at-most = omega arith; same-length = refl; done = λ j h. absurd (omega arith); rest = refl }
 
-pub write-step : (sets : List ℕ) (n : ℕ) (old new : List ℕ) (m h : ℕ) → n ≤ length old → m < n → Last sets m h → WriteInv sets n old new m → WriteInv sets n old (set new m h) (m + 1)
+pub write-step : (sets : List ℕ) (n : ℕ) (old new : List ℕ) (m h : ℕ) → n ≤ length old → m < n → LastSet sets m h → WriteInv sets n old new m → WriteInv sets n old (set new m h) (m + 1)
 write-step sets n old new m h hn hm l inv = record {
   at-most = omega arith;
   same-length = length-set new m h ∙ inv .same-length;
@@ -223,7 +222,7 @@ write-step sets n old new m h hn hm l inv = record {
   rest = drop-set-lt n new m h hm ∙ inv .rest;
 }
   where
-    go : (j : ℕ) → j < m + 1 → Dec (j ≡ m) → Last sets j (getD (set new m h) j 0)
+    go : (j : ℕ) → j < m + 1 → Dec (j ≡ m) → LastSet sets j (getD (set new m h) j 0)
     go j q (yes e) = rw (e, getD-set-same new m h 0 (omega (arith, inv .same-length))) l
     go j q (no d) = rw (getD-set-other new m j h 0 d) (inv .done j (omega arith))
 
@@ -239,7 +238,7 @@ module _ (w : List ℕ) (n : ℕ) (sets : List ℕ) (r : ℕ) (levels : Levels w
   pub sinks : n ≤ 32 → Sinks sets
   sinks h = (r, omega (arith, levels .fits), levels .empty)
 
-  module _ (m h : ℕ) (hm : m < n) (l : Last sets m h) where
+  module _ (m h : ℕ) (hm : m < n) (l : LastSet sets m h) where
     last-below : h < r
     last-below = go (decLt h r)
       where
@@ -247,7 +246,7 @@ module _ (w : List ℕ) (n : ℕ) (sets : List ℕ) (r : ℕ) (levels : Levels w
         go (yes q) = q
         go (no q) = absurd (bit-zero m (subst (λ (row : ℕ). Bit row m) (levels .empty) (l .in-it r (omega arith))))
 
-    last-most : (k : ℕ) → Steps (Rows n w) n k m → k ≤ h
+    last-most : (k : ℕ) → StepsFrom (Rows n w) n k m → k ≤ h
     last-most k s = go (decLe k h)
       where
         go : Dec (k ≤ h) → k ≤ h

@@ -1,9 +1,11 @@
-use Prim.Native.Nat.{_-_}
-use native.Mathlib.Omega.{arith}
+-- `walks::into` meets its contract. Assumes nothing.
+use Prim.Native.Nat.{_-_, _<_, _^_}
 use mathlib.Core.Logic.{⊎-elim}
+use native.Mathlib.Omega.{arith}
+use borrow.Author.Needs.{needs}
+use Rattle.walks.proofs.Sets.{IntoInv, into-start, into-yes, into-no, into-end}
 use Rattle.walks.proofs.into.Statement.{statement}
 use Rattle.walks.proofs.into.Tie as tie
-use Rattle.walks.proofs.Sets.{IntoInv, into-start, into-yes, into-no, into-end, one-bit}
 
 abbrev Inv-loop : tie.InvT-loop
 Inv-loop s n set r₀ y₀ r y = IntoInv s n set r y
@@ -14,17 +16,17 @@ abbrev μ-loop : tie.MeasureT-loop
 loop-holds : tie.Need-loop-holds Inv-loop μ-loop
 loop-holds c = into-start _ _ _
 
-mul-if1 : tie.Need-mul-if1 Inv-loop μ-loop
-mul-if1 c = omega arith
+mul-meet : tie.Need-mul-meet Inv-loop μ-loop
+mul-meet c = omega arith
 
-shared-slice-read-if1 : tie.Need-shared-slice-read-if1 Inv-loop μ-loop
-shared-slice-read-if1 c = omega arith
+shared-slice-read-meet : tie.Need-shared-slice-read-meet Inv-loop μ-loop
+shared-slice-read-meet c = omega arith
 
-cast-r : tie.Need-cast-r Inv-loop μ-loop
-cast-r c = omega arith
+meet-requires : tie.Need-meet-requires Inv-loop μ-loop
+meet-requires c κs = search needs
 
-shl-r : tie.Need-shl-r Inv-loop μ-loop
-shl-r c = omega arith
+with-bit-requires : tie.Need-with-bit-requires Inv-loop μ-loop
+with-bit-requires c κs = omega arith
 
 add-y : tie.Need-add-y Inv-loop μ-loop
 add-y c = omega arith
@@ -34,18 +36,33 @@ loop-less c = omega arith
 
 loop-again : tie.Need-loop-again Inv-loop μ-loop
 loop-again c =
-    let a = c .before .before .before .before .args in
-    let l = c .before .before .before .loop in
+    let a = c .before .before .before .before .before .before .args in
+    let l = c .before .before .before .before .loop in
+    let m = c .before .meet in
+    let h : m .result < 2 ^ 32 = omega (arith, m .ok) in
     ⊎-elim
-    (λ w. rw (w .1) (into-yes (a .s .now) (a .n) (a .set) (l .r) (l .y) (omega arith) (l .inv) _ (one-bit (l .y) (omega arith)) (c .before .shared-slice-known .given (l .y) .fits) (w .0 .taken)))
-    (λ w. rw (w .1) (into-no (a .s .now) (a .n) (a .set) (l .r) (l .y) (omega arith) (l .inv) (w .0 .left)))
+    (λ w. rw (w .2) (into-yes (a .s .now) (a .n) (a .set) (l .r) (l .y) (omega arith) (l .inv) (m .result) (w .1 .result) h (m .ensures) (w .0 .taken) (w .1 .ensures)))
+    (λ w. rw (w .1) (into-no (a .s .now) (a .n) (a .set) (l .r) (l .y) (omega arith) (l .inv) (m .result) (m .ensures) (w .0 .left)))
     (c .if1 .came)
 
 returns : tie.Need-returns Inv-loop μ-loop
 returns c =
-    let a = c .before .before .args in
+    let a = c .before .before .before .args in
     let l = c .before .loop in
     into-end (a .s .now) (a .n) (a .set) (l .r) (l .y) (omega arith) (l .inv)
 
 pub into-spec : {M : Type 1} → statement M
-into-spec = tie.close (tie.spec Inv-loop μ-loop loop-holds mul-if1 shared-slice-read-if1 cast-r shl-r add-y loop-less loop-again returns)
+into-spec =
+    tie.close
+    (tie.spec
+    Inv-loop
+    μ-loop
+    loop-holds
+    mul-meet
+    shared-slice-read-meet
+    meet-requires
+    with-bit-requires
+    add-y
+    loop-less
+    loop-again
+    returns)

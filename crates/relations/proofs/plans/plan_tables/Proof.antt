@@ -1,17 +1,17 @@
--- `bare_plans::plan_tables` meets its contract. Assumes nothing.
+-- `plans::plan_tables` meets its contract. Assumes nothing.
 use native.Mathlib.Omega.{arith}
 use lib.ListN.{length}
 use borrow.Author.Needs.{needs}
-use Rattle.relations.specs.call.Tables.{rowsOf}
-use Rattle.relations.proofs.call.Calls.{Passed, passed}
-use Rattle.relations.proofs.plans.Plans.{tidy-agree, planned, same-waits}
 use Rattle.waits.proofs.Waiting.{waits-tidy}
-use Rattle.relations.proofs.call.Tables.{tidy}
+use Rattle.relations.specs.row_bytes.RowBytes.{rowsOfBytes}
+use Rattle.relations.proofs.row_bytes.RowLaws.{tidy}
+use Rattle.relations.proofs.checks.Passing.{PassedChecks, passed}
+use Rattle.relations.proofs.plans.Plans.{tidy-agree, planned, same-waits}
 use Rattle.relations.proofs.plans.plan_tables.Statement.{statement}
 use Rattle.relations.proofs.plans.plan_tables.Tie as tie
 
-given : (s : tie.Start) → Passed (s .args .n) (s .args .causes .now) (s .args .stalls .now) (length (s .args .out .now))
-given s = passed (s .args .n) (s .args .causes .now) (s .args .stalls .now) (length (s .args .out .now)) (s .pre)
+given : (s : tie.Start) → PassedChecks 4 32 (s .args .n) (s .args .causes .now) (s .args .stalls .now) (length (s .args .out .now))
+given s = passed 4 32 (s .args .n) (s .args .causes .now) (s .args .stalls .now) (length (s .args .out .now)) (s .pre)
 
 slice-aggregate-load : tie.Need-slice-aggregate-load
 slice-aggregate-load c = search needs
@@ -20,7 +20,7 @@ load-requires : tie.Need-load-requires
 load-requires c κs =
     let s = c .before .before .before .before in
     let k = given s .count in
-    (k .most, k .causes-long, k .most)
+    (k .few, k .causes-long, k .few)
 
 slice-aggregate-load-2 : tie.Need-slice-aggregate-load-2
 slice-aggregate-load-2 c = search needs
@@ -29,7 +29,7 @@ load-requires-2 : tie.Need-load-requires-2
 load-requires-2 c κs =
     let s = c .before .before .before .before .before .before .before in
     let k = given s .count in
-    (k .most, k .stalls-long, k .most)
+    (k .few, k .stalls-long, k .few)
 
 slice-aggregate-waits : tie.Need-slice-aggregate-waits
 slice-aggregate-waits c = search needs
@@ -46,12 +46,12 @@ waits-requires c κs =
     let f = c .before .before .before .before .before .before .before .load .ensures in
     let g = c .before .before .before .before .load2 .ensures in
     let k = given s in (
-      k .count .most,
-      omega (arith, k .count .most, f .kept .long),
-      omega (arith, k .count .most, g .kept .long),
-      k .count .most,
-      tidy-agree (s .args .n) (c .before .before .before .before .before .before .before .load .last .1 .1 .0) (rowsOf (s .args .causes .now)) (f .rows) (tidy (s .args .n) (rowsOf (s .args .causes .now)) (k .causes-tidy)),
-      tidy-agree (s .args .n) (c .before .before .before .before .load2 .last .1 .1 .0) (rowsOf (s .args .stalls .now)) (g .rows) (tidy (s .args .n) (rowsOf (s .args .stalls .now)) (k .stalls-tidy)),
+      k .count .few,
+      omega (arith, k .count .few, f .kept .long),
+      omega (arith, k .count .few, g .kept .long),
+      k .count .few,
+      tidy-agree (s .args .n) (c .before .before .before .before .before .before .before .load .last .1 .1 .0) (rowsOfBytes 4 (s .args .n) (s .args .causes .now)) (f .rows) (tidy (s .args .n) (rowsOfBytes 4 (s .args .n) (s .args .causes .now)) (k .causes-straight)),
+      tidy-agree (s .args .n) (c .before .before .before .before .load2 .last .1 .1 .0) (rowsOfBytes 4 (s .args .n) (s .args .stalls .now)) (g .rows) (tidy (s .args .n) (rowsOfBytes 4 (s .args .n) (s .args .stalls .now)) (k .stalls-straight)),
     )
 
 slice-aggregate-plan-rows : tie.Need-slice-aggregate-plan-rows
@@ -62,7 +62,7 @@ plan-rows-requires c κs =
     let s = c .before .before .before .before .before .before .before .before .before .before .before .before .before .before .before .before .before in
     let w = c .before .before .before .before .waits .ensures .1 in
     let k = given s in
-    (k .count .some, k .count .most, omega (arith, k .count .most, w .kept .long), k .fits, waits-tidy (s .args .n) (c .before .before .before .before .before .before .before .before .before .before .before .before .load .last .1 .1 .0) (c .before .before .before .before .before .before .before .before .before .load2 .last .1 .1 .0) _ (c .before .before .before .before .waits .last .1 .1 .1 .0) w)
+    (k .count .some, k .count .few, omega (arith, k .count .few, w .kept .long), k .fits, waits-tidy (s .args .n) (c .before .before .before .before .before .before .before .before .before .before .before .before .load .last .1 .1 .0) (c .before .before .before .before .before .before .before .before .before .load2 .last .1 .1 .0) _ (c .before .before .before .before .waits .last .1 .1 .1 .0) w)
 
 same-length : tie.Need-same-length
 same-length c = search needs
@@ -73,12 +73,9 @@ returns c =
     let k = given s in
     let p = c .before .before .plan-rows in
     let w = c .before .before .before .before .before .before .before .waits in
-    record {
-      number-0 = p .ensures .number-0;
-      planned = planned (s .args .n) (rowsOf (s .args .causes .now)) (rowsOf (s .args .stalls .now)) (w .last .1 .1 .1 .0) (k .count .some)
-          (same-waits (s .args .n) (c .before .before .before .before .before .before .before .before .before .before .before .before .before .before .before .load .last .1 .1 .0) (rowsOf (s .args .causes .now)) (c .before .before .before .before .before .before .before .before .before .before .before .before .load2 .last .1 .1 .0) (rowsOf (s .args .stalls .now)) _ (w .last .1 .1 .1 .0) (c .before .before .before .before .before .before .before .before .before .before .before .before .before .before .before .load .ensures .rows) (c .before .before .before .before .before .before .before .before .before .before .before .before .load2 .ensures .rows) (w .ensures .1))
-          (s .args .out .now) (p .last .1 .1 .0) (p .result) (p .ensures);
-    }
+    planned (s .args .n) (rowsOfBytes 4 (s .args .n) (s .args .causes .now)) (rowsOfBytes 4 (s .args .n) (s .args .stalls .now)) (w .last .1 .1 .1 .0) (k .count .some)
+    (same-waits (s .args .n) (c .before .before .before .before .before .before .before .before .before .before .before .before .before .before .before .load .last .1 .1 .0) (rowsOfBytes 4 (s .args .n) (s .args .causes .now)) (c .before .before .before .before .before .before .before .before .before .before .before .before .load2 .last .1 .1 .0) (rowsOfBytes 4 (s .args .n) (s .args .stalls .now)) _ (w .last .1 .1 .1 .0) (c .before .before .before .before .before .before .before .before .before .before .before .before .before .before .before .load .ensures .rows) (c .before .before .before .before .before .before .before .before .before .before .before .before .load2 .ensures .rows) (w .ensures .1))
+    (s .args .out .now) (p .last .1 .1 .0) (p .result) (p .ensures)
 
 pub plan-tables-spec : {M : Type 1} → statement M
 plan-tables-spec =

@@ -1,19 +1,19 @@
--- `steps::steps_of` meets its contract.
+-- `steps::steps_of` meets its contract. Assumes nothing.
 use Prim.Native.Nat.{_-_}
 use native.Mathlib.Omega.{arith}
 use lib.ListN.{replicate}
 use borrow.Author.Needs.{needs}
-use Rattle.rows.proofs.Filling.{Filling, fill-start, fill-step}
+use Rattle.rows.proofs.FillingRows.{FillingRows, fill-start, fill-step}
 use Rattle.waits.specs.steps.Steps.{mappingOf}
 use Rattle.waits.proofs.steps.Queueing.{IsSteps, steps-row, steps-end}
 use Rattle.waits.proofs.steps.steps_of.Statement.{statement}
 use Rattle.waits.proofs.steps.steps_of.Tie as tie
 
 abbrev Inv-loop : tie.InvT-loop
-Inv-loop networks n waits stalled steps₀ m₀ steps m = Filling (IsSteps waits (mappingOf networks) stalled n) n (replicate 32 0) steps m
+Inv-loop networks n waits stalled steps₀ i₀ steps i = FillingRows (IsSteps waits (mappingOf networks) stalled n) n (replicate 32 0) steps i
 
 abbrev μ-loop : tie.MeasureT-loop
-μ-loop networks n waits stalled steps₀ m₀ steps m = n - m
+μ-loop networks n waits stalled steps₀ i₀ steps i = n - i
 
 stalled-of-requires : tie.Need-stalled-of-requires Inv-loop μ-loop
 stalled-of-requires c κs = c .pre
@@ -22,6 +22,9 @@ loop-holds : tie.Need-loop-holds Inv-loop μ-loop
 loop-holds c =
     let a = c .before .args in
     fill-start (IsSteps (a .t1) (mappingOf (a .networks)) (c .stalled-of .result) (a .n)) (a .n) (replicate 32 0)
+
+cast-t11 : tie.Need-cast-t11 Inv-loop μ-loop
+cast-t11 c = omega arith
 
 mul-join : tie.Need-mul-join Inv-loop μ-loop
 mul-join c = omega arith
@@ -41,8 +44,8 @@ mul-steps c = omega arith
 array-write-steps : tie.Need-array-write-steps Inv-loop μ-loop
 array-write-steps c = omega arith
 
-add-m : tie.Need-add-m Inv-loop μ-loop
-add-m c = omega arith
+add-i : tie.Need-add-i Inv-loop μ-loop
+add-i c = omega arith
 
 loop-less : tie.Need-loop-less Inv-loop μ-loop
 loop-less c = omega arith
@@ -54,15 +57,15 @@ loop-again c =
     let d = c .before .before .before .before .stalled-of .result in
     let l = c .before .before .before .loop in
     let q = c .before .queues-row in
-    fill-step (IsSteps (a .t1) (mappingOf (a .networks)) d (a .n)) (a .n) (replicate 32 0) (l .steps) (l .m) (c .join .result) (s .pre) (omega arith)
-    (steps-row (a .t1) (mappingOf (a .networks)) d (a .n) (l .m) (q .result) (c .join .result) (q .ensures) (c .join .ensures)) (l .inv)
+    fill-step (IsSteps (a .t1) (mappingOf (a .networks)) d (a .n)) (a .n) (replicate 32 0) (l .steps) (l .i) (c .join .result) (s .pre) (omega arith)
+    (steps-row (a .t1) (mappingOf (a .networks)) d (a .n) (l .i) (q .result) (c .join .result) (q .ensures) (c .join .ensures)) (l .inv)
 
 returns : tie.Need-returns Inv-loop μ-loop
 returns c =
     let a = c .before .before .before .args in
     let d = c .before .before .stalled-of in
     let l = c .before .loop in
-    steps-end (a .t1) (a .stalls) (mappingOf (a .networks)) (d .result) (a .n) (l .steps) (l .m) (omega arith) (d .ensures) (l .inv)
+    steps-end (a .t1) (a .stalls) (mappingOf (a .networks)) (d .result) (a .n) (l .steps) (l .i) (omega arith) (d .ensures) (l .inv)
 
 pub steps-of-spec : {M : Type 1} → statement M
 steps-of-spec =
@@ -72,13 +75,14 @@ steps-of-spec =
     μ-loop
     stalled-of-requires
     loop-holds
+    cast-t11
     mul-join
     array-read-join
     queues-row-requires
     join-requires
     mul-steps
     array-write-steps
-    add-m
+    add-i
     loop-less
     loop-again
     returns)

@@ -1,7 +1,8 @@
-use Prim.Native.Nat.{_-_, _<_}
+-- `cycles::after` meets its contract. Assumes nothing.
+use Prim.Native.Nat.{_<_}
+use native.Mathlib.Nat.{pos-of-ne-zero}
 use native.Mathlib.Omega.{arith}
-use lib.Bits.{and-le-r}
-use lib.Count.{trailingZeros}
+use borrow.Author.Needs.{needs}
 use Rattle.walks.proofs.cycles.Leaving.{AfterInv, after-start, first-in, after-step, after-end}
 use Rattle.walks.proofs.cycles.after.Statement.{statement}
 use Rattle.walks.proofs.cycles.after.Tie as tie
@@ -13,50 +14,51 @@ abbrev μ-loop : tie.MeasureT-loop
 μ-loop s n set r₀ left₀ r left = left
 
 loop-holds : tie.Need-loop-holds Inv-loop μ-loop
-loop-holds c = after-start _ _ (c .fits .set .fits)
+loop-holds c = after-start _ _
+
+lowest-requires : tie.Need-lowest-requires Inv-loop μ-loop
+lowest-requires c κs = pos-of-ne-zero (c .loop-test .taken)
 
 -- a number of the set is below n
-small : (c : tie.In-loop Inv-loop μ-loop) → trailingZeros 32 (c .before .loop .left) < c .before .before .args .n
+small : (c : tie.After-lowest Inv-loop μ-loop) → c .lowest .result < c .before .before .before .before .args .n
 small c =
-    let a = c .before .before .args in
-    let l = c .before .loop in
-    c .before .before .pre .1 (trailingZeros 32 (l .left)) (first-in (a .s .now) (a .set) (l .r) (l .left) (c .loop-test .taken) (l .inv))
+    let s = c .before .before .before .before in
+    let l = c .before .before .loop in
+    s .pre .1 (c .lowest .result) (first-in (s .args .s .now) (s .args .set) (l .r) (l .left) (c .lowest .result) (c .lowest .ensures) (l .inv))
 
-cast-r : tie.Need-cast-r Inv-loop μ-loop
-cast-r c = omega (arith, small c)
+mul-join : tie.Need-mul-join Inv-loop μ-loop
+mul-join c = omega (arith, small c)
 
-mul-r : tie.Need-mul-r Inv-loop μ-loop
-mul-r c = omega (arith, small c)
+shared-slice-read-join : tie.Need-shared-slice-read-join Inv-loop μ-loop
+shared-slice-read-join c = omega (arith, small (c .before))
 
-shared-slice-read-r : tie.Need-shared-slice-read-r Inv-loop μ-loop
-shared-slice-read-r c = omega (arith, small (c .before))
+join-requires : tie.Need-join-requires Inv-loop μ-loop
+join-requires c κs = search needs
 
-sub-left : tie.Need-sub-left Inv-loop μ-loop
-sub-left c = omega arith
+without-requires : tie.Need-without-requires Inv-loop μ-loop
+without-requires c κs = let w = c .before .before .lowest .ensures in (w .below, w .bit)
 
 loop-less : tie.Need-loop-less Inv-loop μ-loop
-loop-less c = let l = c .before .before .loop in omega (arith, and-le-r (l .left) (l .left - 1), c .before .loop-test .taken)
+loop-less c = c .without .ensures .less
 
 loop-again : tie.Need-loop-again Inv-loop μ-loop
 loop-again c =
-    let a = c .before .before .before .args in
-    let l = c .before .before .loop in
-    after-step (a .s .now) (a .set) (l .r) (l .left) (c .before .loop-test .taken) (l .inv)
+    let a = c .before .before .before .before .before .before .before .args in
+    let l = c .before .before .before .before .before .loop in
+    let w = c .before .before .before .lowest in
+    after-step (a .s .now) (a .set) (l .r) (l .left) (w .result) (w .ensures) (l .inv) (c .before .join .result) (c .without .result) (c .before .join .ensures) (c .without .ensures)
 
-sub-result : tie.Need-sub-result Inv-loop μ-loop
-sub-result c = omega arith
+all-below-requires : tie.Need-all-below-requires Inv-loop μ-loop
+all-below-requires c κs = omega arith
 
-cast-result : tie.Need-cast-result Inv-loop μ-loop
-cast-result c = omega arith
-
-shr-result : tie.Need-shr-result Inv-loop μ-loop
-shr-result c = omega arith
+meet-requires : tie.Need-meet-requires Inv-loop μ-loop
+meet-requires c κs = search needs
 
 returns : tie.Need-returns Inv-loop μ-loop
 returns c =
-    let a = c .before .before .args in
-    let l = c .before .loop in
-    after-end (a .s .now) (a .n) (a .set) (l .r) (l .left) (omega arith) (c .loop-test .left) (l .inv)
+    let a = c .before .before .before .before .before .args in
+    let l = c .before .before .before .loop in
+    after-end (a .s .now) (a .n) (a .set) (l .r) (l .left) (c .before .all-below .result) (c .meet .result) (c .before .before .loop-test .left) (c .before .all-below .ensures) (c .meet .ensures) (l .inv)
 
 pub after-spec : {M : Type 1} → statement M
 after-spec =
@@ -65,13 +67,13 @@ after-spec =
     Inv-loop
     μ-loop
     loop-holds
-    cast-r
-    mul-r
-    shared-slice-read-r
-    sub-left
+    lowest-requires
+    mul-join
+    shared-slice-read-join
+    join-requires
+    without-requires
     loop-less
     loop-again
-    sub-result
-    cast-result
-    shr-result
+    all-below-requires
+    meet-requires
     returns)

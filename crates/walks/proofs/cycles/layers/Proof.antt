@@ -1,7 +1,7 @@
+-- `cycles::layers` meets its contract. Assumes nothing.
 use Prim.Native.Nat.{_-_}
 use native.Mathlib.Omega.{arith}
 use borrow.Author.Needs.{needs}
-use Rattle.walks.proofs.Sets.{one-bit}
 use Rattle.walks.proofs.cycles.Layering.{LayersInv, layers-start, layers-step, layers-end}
 use Rattle.walks.proofs.cycles.layers.Statement.{statement}
 use Rattle.walks.proofs.cycles.layers.Tie as tie
@@ -12,19 +12,16 @@ Inv-loop s n x len sets₀ set₀ k₀ sets set k = LayersInv s n x sets set k
 abbrev μ-loop : tie.MeasureT-loop
 μ-loop s n x len sets₀ set₀ k₀ sets set k = len - k
 
-cast-set : tie.Need-cast-set Inv-loop μ-loop
-cast-set c = omega arith
-
-shl-set : tie.Need-shl-set Inv-loop μ-loop
-shl-set c = omega arith
+with-bit-requires : tie.Need-with-bit-requires Inv-loop μ-loop
+with-bit-requires c κs = omega arith
 
 element-write-sets : tie.Need-element-write-sets Inv-loop μ-loop
 element-write-sets c = search needs
 
 loop-holds : tie.Need-loop-holds Inv-loop μ-loop
 loop-holds c =
-    let a = c .before .args in
-    layers-start (a .s .now) (a .n) (a .x) (a .sets .now) _ (c .before .pre .1) (one-bit (a .x) (omega arith))
+    let s = c .before .before in
+    layers-start (s .args .s .now) (s .args .n) (s .args .x) (s .args .sets .now) (c .with-bit .result) (s .pre .1) (c .with-bit .ensures)
 
 add-loop : tie.Need-add-loop Inv-loop μ-loop
 add-loop c = omega arith
@@ -46,13 +43,13 @@ loop-less c = omega arith
 
 loop-again : tie.Need-loop-again Inv-loop μ-loop
 loop-again c =
-    let a = c .before .before .before .before .args in
+    let a = c .before .before .before .before .before .args in
     let l = c .before .before .loop in
     layers-step (a .s .now) (a .n) (a .x) (l .sets) (l .set) (l .k) (c .into .result) (omega arith) (omega arith) (c .into .ensures) (l .inv)
 
 returns : tie.Need-returns Inv-loop μ-loop
 returns c =
-    let a = c .before .before .before .args in
+    let a = c .before .before .before .before .args in
     let l = c .before .loop in
     layers-end (a .s .now) (a .n) (a .x) (l .sets) (l .set) (l .k) (a .len) (omega arith) (l .inv)
 
@@ -62,8 +59,7 @@ layers-spec =
     (tie.spec
     Inv-loop
     μ-loop
-    cast-set
-    shl-set
+    with-bit-requires
     element-write-sets
     loop-holds
     add-loop

@@ -1,7 +1,7 @@
+-- `heights::rounds` meets its contract. Assumes nothing.
 use Prim.Native.Nat.{_-_}
 use native.Mathlib.Omega.{arith}
 use borrow.Author.Needs.{needs}
-use Rattle.walks.proofs.Sets.{all-bits}
 use Rattle.walks.proofs.heights.Levels.{RoundsInv, rounds-start, rounds-stuck, rounds-end, rounds-step, rounds-full}
 use Rattle.walks.proofs.heights.rounds.Statement.{statement}
 use Rattle.walks.proofs.heights.rounds.Tie as tie
@@ -12,29 +12,23 @@ Inv-loop w n sets₀ set₀ k₀ sets set k = RoundsInv w n sets set k
 abbrev μ-loop : tie.MeasureT-loop
 μ-loop w n sets₀ set₀ k₀ sets set k = n - k
 
-sub-set : tie.Need-sub-set Inv-loop μ-loop
-sub-set c = omega arith
-
-cast-set : tie.Need-cast-set Inv-loop μ-loop
-cast-set c = omega arith
-
-shr-set : tie.Need-shr-set Inv-loop μ-loop
-shr-set c = omega arith
+all-below-requires : tie.Need-all-below-requires Inv-loop μ-loop
+all-below-requires c κs = omega arith
 
 element-write-sets : tie.Need-element-write-sets Inv-loop μ-loop
 element-write-sets c = search needs
 
 loop-holds : tie.Need-loop-holds Inv-loop μ-loop
 loop-holds c =
-    let a = c .before .args in
-    rounds-start (a .w .now) (a .n) (a .sets .now) _ (omega arith) (c .before .pre .1) (all-bits (a .n) (omega arith))
+    let s = c .before .before in
+    rounds-start (s .args .w .now) (s .args .n) (s .args .sets .now) (c .all-below .result) (omega arith) (s .pre .1) (c .all-below .ensures)
 
 into-requires : tie.Need-into-requires Inv-loop μ-loop
 into-requires c κs = omega arith
 
 returns : tie.Need-returns Inv-loop μ-loop
 returns c =
-    let a = c .before .before .before .before .before .args in
+    let a = c .before .before .before .before .before .before .args in
     let l = c .before .before .before .loop in
     rounds-stuck (a .w .now) (a .n) (l .sets) (l .set) (l .k) (c .before .into .result) (omega arith) (omega arith) (l .inv) (c .before .into .ensures) (c .if1 .taken)
 
@@ -49,7 +43,7 @@ element-write-sets-2 c = omega arith
 
 returns-2 : tie.Need-returns-2 Inv-loop μ-loop
 returns-2 c =
-    let a = c .before .before .before .before .before .before .args in
+    let a = c .before .before .before .before .before .before .before .args in
     let l = c .before .before .before .before .loop in
     let i = c .before .before .into in
     rounds-end (a .w .now) (a .n) (l .sets) (l .set) (l .k) (i .result) (omega arith) (omega arith) (l .inv) (i .ensures) (c .if2 .taken)
@@ -59,14 +53,14 @@ loop-less c = omega arith
 
 loop-again : tie.Need-loop-again Inv-loop μ-loop
 loop-again c =
-    let a = c .before .before .before .before .before .before .args in
+    let a = c .before .before .before .before .before .before .before .args in
     let l = c .before .before .before .before .loop in
     let i = c .before .before .into in
     rounds-step (a .w .now) (a .n) (l .sets) (l .set) (l .k) (i .result) (omega arith) (omega arith) (l .inv) (i .ensures) (i .ok) (c .if2 .left)
 
 returns-3 : tie.Need-returns-3 Inv-loop μ-loop
 returns-3 c =
-    let a = c .before .before .before .args in
+    let a = c .before .before .before .before .args in
     let l = c .before .loop in
     rounds-full (a .w .now) (a .n) (l .sets) (l .set) (l .k) (omega arith) (l .inv)
 
@@ -76,9 +70,7 @@ rounds-spec =
     (tie.spec
     Inv-loop
     μ-loop
-    sub-set
-    cast-set
-    shr-set
+    all-below-requires
     element-write-sets
     loop-holds
     into-requires

@@ -6,20 +6,20 @@ use native.Mathlib.Omega.{arith}
 use lib.ListN.{length, getD, set, length-set}
 use lib.Seq.{getD-set-same, getD-set-other}
 use borrow.Author.Count.{below-more}
-use Rattle.rows.specs.Closure.{Kept}
+use Rattle.rows.specs.Closure.{KeptFrom}
 
 -- the rows below i are as Q says, and the others are as they were
 module _ (Q : ℕ → ℕ → Type 0) (n : ℕ) (old : List ℕ) where
-  pub record Filling (rows : List ℕ) (i : ℕ) : Type 0 where
+  pub record FillingRows (rows : List ℕ) (i : ℕ) : Type 0 where
     pub at-most : i ≤ n
     pub long : length rows ≡ length old
     pub done : (a : ℕ) → a < i → Q a (getD rows a 0)
     pub todo : (a : ℕ) → i ≤ a → getD rows a 0 ≡ getD old a 0
 
-  pub fill-start : Filling old 0
+  pub fill-start : FillingRows old 0
   fill-start = record { at-most = omega arith; long = refl; done = λ a h. absurd (omega arith); todo = λ a h. refl }
 
-  pub fill-step : (rows : List ℕ) (i r : ℕ) → n ≤ length old → i < n → Q i r → Filling rows i → Filling (set rows i r) (i + 1)
+  pub fill-step : (rows : List ℕ) (i r : ℕ) → n ≤ length old → i < n → Q i r → FillingRows rows i → FillingRows (set rows i r) (i + 1)
   fill-step rows i r hn hi q f = record {
     at-most = omega arith;
     long = length-set rows i r ∙ f .long;
@@ -28,8 +28,8 @@ module _ (Q : ℕ → ℕ → Type 0) (n : ℕ) (old : List ℕ) where
     todo = λ a h. getD-set-other rows i a r 0 (λ e. absurd (omega (arith, e))) ∙ f .todo a (omega arith);
   }
 
-  pub fill-each : (rows : List ℕ) (i : ℕ) → n ≤ i → Filling rows i → (a : ℕ) → a < n → Q a (getD rows a 0)
+  pub fill-each : (rows : List ℕ) (i : ℕ) → n ≤ i → FillingRows rows i → (a : ℕ) → a < n → Q a (getD rows a 0)
   fill-each rows i h f a ha = f .done a (omega arith)
 
-  pub fill-kept : (rows : List ℕ) (i : ℕ) → n ≤ i → Filling rows i → Kept n old rows
+  pub fill-kept : (rows : List ℕ) (i : ℕ) → n ≤ i → FillingRows rows i → KeptFrom n old rows
   fill-kept rows i h f = record { rest = λ a ha. f .todo a (omega (arith, f .at-most)); long = f .long }

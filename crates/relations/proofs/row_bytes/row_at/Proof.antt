@@ -1,7 +1,10 @@
--- `call::row_at` meets its contract: each step is found by the search. The file is there so that a wrong step is told here, and not at its caller.
+-- `row_bytes::row_at` meets its contract. Assumes nothing.
+use Prim.Native.Nat.{_*_}
+use native.Mathlib.Omega.{arith}
 use borrow.Author.Needs.{needs}
-use Rattle.relations.proofs.call.row_at.Statement.{statement}
-use Rattle.relations.proofs.call.row_at.Tie as tie
+use Rattle.relations.proofs.row_bytes.RowLaws.{four-bytes}
+use Rattle.relations.proofs.row_bytes.row_at.Statement.{statement}
+use Rattle.relations.proofs.row_bytes.row_at.Tie as tie
 
 mul-k : tie.Need-mul-k
 mul-k c = search needs
@@ -58,7 +61,7 @@ add-result-3 : tie.Need-add-result-3
 add-result-3 c = search needs
 
 returns : tie.Need-returns
-returns c = search needs
+returns c = let a = c .before .before .before .before .before .before .before .before .before .args in omega (arith, four-bytes (a .table .now) (4 * a .i) (omega arith))
 
 pub row-at-spec : {M : Type 1} → statement M
 row-at-spec =

@@ -1,19 +1,19 @@
--- `call::load` meets its contract. Assumes nothing.
+-- `row_bytes::load` meets its contract. Assumes nothing.
 use Prim.Native.Nat.{_-_}
 use native.Mathlib.Omega.{arith}
-use Rattle.rows.proofs.Filling.{Filling, fill-start}
-use Rattle.relations.proofs.call.Tables.{IsRow, load-step, load-end}
-use Rattle.relations.proofs.call.load.Statement.{statement}
-use Rattle.relations.proofs.call.load.Tie as tie
+use Rattle.rows.proofs.FillingRows.{FillingRows, fill-start}
+use Rattle.relations.proofs.row_bytes.RowLaws.{IsRow, load-step, load-end}
+use Rattle.relations.proofs.row_bytes.load.Statement.{statement}
+use Rattle.relations.proofs.row_bytes.load.Tie as tie
 
 abbrev Inv-loop : tie.InvT-loop
-Inv-loop table n rows₀ i₀ rows i = Filling (IsRow table) n rows₀ rows i
+Inv-loop table n rows₀ i₀ rows i = FillingRows (IsRow 4 n table) n rows₀ rows i
 
 abbrev μ-loop : tie.MeasureT-loop
 μ-loop table n rows₀ i₀ rows i = n - i
 
 loop-holds : tie.Need-loop-holds Inv-loop μ-loop
-loop-holds c = let a = c .before .before .args in fill-start (IsRow (a .table .now)) (a .n) (a .rows .now)
+loop-holds c = let a = c .before .before .args in fill-start (IsRow 4 (a .n) (a .table .now)) (a .n) (a .rows .now)
 
 row-at-requires : tie.Need-row-at-requires Inv-loop μ-loop
 row-at-requires c κs = omega arith
@@ -34,7 +34,7 @@ loop-again : tie.Need-loop-again Inv-loop μ-loop
 loop-again c =
     let l = c .before .before .loop in
     let a = c .before .before .before .before .before .args in
-    load-step (a .n) (a .table .now) (a .rows .now) (l .rows) (l .i) (c .row-at .result) (omega arith) (omega arith) (omega arith) (c .row-at .ensures) (l .inv)
+    load-step 4 (a .n) (a .table .now) (a .rows .now) (l .rows) (l .i) (c .row-at .result) (omega arith) (omega arith) (c .row-at .ensures) (l .inv)
 
 same-length : tie.Need-same-length Inv-loop μ-loop
 same-length c = c .before .loop .inv .long
@@ -43,7 +43,7 @@ returns : tie.Need-returns Inv-loop μ-loop
 returns c =
     let l = c .before .loop in
     let a = c .before .before .before .before .args in
-    load-end (a .n) (a .table .now) (a .rows .now) (l .rows) (l .i) (omega arith) (l .inv)
+    load-end 4 (a .n) (a .table .now) (a .rows .now) (l .rows) (l .i) (omega arith) (l .inv)
 
 pub load-spec : {M : Type 1} → statement M
 load-spec =

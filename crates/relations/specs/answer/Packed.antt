@@ -1,7 +1,7 @@
 -- The answer of the relations call as one number.
 use Prim.Native.Nat.{ℕ, _+_, _*_, _/_, _%_, _<_}
 use mathlib.Core.Path.{_≡_}
-use Rattle.relations.specs.declared.call.RelationsAnswer.{RelationsAnswer}
+use Rattle.relations.specs.declared.answer.RelationsAnswer.{RelationsAnswer}
 
 -- No number is larger than its place in the packed number.
 pub record RelationsSmall (r : RelationsAnswer) : Type 0 where

@@ -1,4 +1,0 @@
-pub mod Tables
-pub mod Call
-pub mod Plans
-pub mod Packed
