@@ -5,12 +5,6 @@ use crate::answer::RelationsAnswer;
 use crate::row_bytes::ROW_BYTES;
 use rows::WIDTH;
 
-const ROOM: u8 = 16;
-
-const COUNT: u8 = 17;
-
-const STRAY: u8 = 18;
-
 // Refusal 17: the count, or a table of another length than it asks.
 fn wrong_count(n: usize, causes: &[u8], stalls: &[u8]) -> bool
     ensures { λ r. ⌜ r ≡ wrongCount 4 32 n (now (causes .entry)) (now (stalls .entry)) ⌝ }
@@ -32,16 +26,16 @@ pub(crate) fn first_check(n: usize, causes: &[u8], stalls: &[u8], room: usize) -
     ensures { λ r. ⌜ r ≡ relationsRefusal 4 32 n (now (causes .entry)) (now (stalls .entry)) room .number ⌝ }
 {
     if wrong_count(n, causes, stalls) {
-        return COUNT;
+        return papers::COUNT;
     }
     if crate::row_bytes::stray(causes, n) {
-        return STRAY;
+        return papers::STRAY;
     }
     if crate::row_bytes::stray(stalls, n) {
-        return STRAY;
+        return papers::STRAY;
     }
     if room < n {
-        return ROOM;
+        return papers::ROOM;
     }
     0
 }
@@ -57,7 +51,7 @@ pub(crate) fn refusal(number: u8, n: usize) -> RelationsAnswer
         needed: 0,
         pairs: 0,
     };
-    if number == ROOM {
+    if number == papers::ROOM {
         r.needed = n;
     }
     r
