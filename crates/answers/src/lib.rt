@@ -5,6 +5,15 @@ ghost use mathlib.Core.Path.{_≡_};
 ghost use Rattle.answers.specs.Answers.{refusedAt, noRoom, finished, Small, shownLength, packedAnswer};
 use papers::Refusal;
 
+// Room for whatever a program prints.
+pub const PRINTED: usize = 2048;
+
+// What a program prints: so many bytes at the front.
+pub struct Printed {
+    pub bytes: [u8; PRINTED],
+    pub length: usize,
+}
+
 // The answer of a call on texts. Every number is 0 unless the paper says otherwise.
 pub struct Answer {
     // why and where a paper is refused; its number is 0 on success

@@ -7,18 +7,16 @@
 // One byte more than the largest text: so much tells that a text is too big.
 const MOST: usize = 49153;
 
-// Room for the longest listing.
-const ROOM: usize = 2048;
-
 // The longest list.
 const LIST: usize = 8192;
 
 fn planned(file: &[u8]) {
     let mut text = [0u8; MOST];
     let n = files::read_file(file, &mut text);
-    let mut out = [0u8; ROOM];
-    let k = plan::program::print_plan(&text[..n], &mut out);
-    io::write_all(1, &out[..k]);
+    let p = plan::program::print_plan(&text[..n]);
+    let bytes = p.bytes;
+    let k = p.length;
+    io::write_all(1, &bytes[..k]);
 }
 
 fn judged(file: &[u8], other: &[u8]) {
@@ -26,9 +24,10 @@ fn judged(file: &[u8], other: &[u8]) {
     let n = files::read_file(file, &mut protocol);
     let mut mapping = [0u8; MOST];
     let m = files::read_file(other, &mut mapping);
-    let mut out = [0u8; ROOM];
-    let k = judge::program::print_judgement(&protocol[..n], &mapping[..m], &mut out);
-    io::write_all(1, &out[..k]);
+    let p = judge::program::print_judgement(&protocol[..n], &mapping[..m]);
+    let bytes = p.bytes;
+    let k = p.length;
+    io::write_all(1, &bytes[..k]);
 }
 
 // The answer of one line of the list.

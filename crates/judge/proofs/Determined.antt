@@ -14,6 +14,7 @@ use Rattle.tables.specs.declared.Tables.{Tables}
 use Rattle.tables.specs.Cells.{relationsOfTables}
 use Rattle.protocol.specs.Reading.{readProtocol}
 use Rattle.answers.specs.declared.Answer.{Answer}
+use Rattle.answers.specs.declared.Printed.{Printed}
 use Rattle.answers.specs.Answers.{Listed}
 use Rattle.judge_listing.specs.JudgeText.{ShownStep, unfitText}
 use Rattle.verdicts.specs.Verdicts.{mappingOf}
@@ -107,3 +108,10 @@ printed-determined x y old new₁ new₂ j k v w =
         let z = eqb-true (readProtocol x .refusal .number) 0 e in
         mapping-printed-one (readProtocol x .tables) y (w .printed) (v .printed) (w .protocol-accepted z) (v .protocol-accepted z)
     same false e = let n = eqb-false (readProtocol x .refusal .number) 0 e in w .protocol-refused n ∙ sym (v .protocol-refused n)
+
+-- by value
+pub print-determined : (protocol mapping : List ℕ) → Determines (λ (r : Printed). JudgePrinted protocol mapping (replicate 2048 0) (r .bytes) (r .length))
+print-determined x y r s v w = let q = printed-determined x y (replicate 2048 0) (r .bytes) (s .bytes) (r .length) (s .length) v w in same (q .0) (q .1)
+  where
+    same : {m n : ℕ} {a b : List ℕ} → m ≡ n → a ≡ b → _≡_ {A = Printed} (record { bytes = a; length = m }) (record { bytes = b; length = n })
+    same e f = cc

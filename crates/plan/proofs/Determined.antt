@@ -5,7 +5,8 @@ use mathlib.Core.Logic.{inl, inr}
 use mathlib.Core.Bool.{Bool, true, false}
 use mathlib.Core.List.{List}
 use native.Mathlib.Omega.{arith}
-use lib.ListN.{getD}
+use Rattle.determined.specs.Determined.{Determines}
+use lib.ListN.{getD, replicate}
 use lib.Seq.{ext-getD}
 use lib.Dec.{eqb}
 use borrow.Author.Tests.{eqb-true, eqb-false}
@@ -69,3 +70,10 @@ printed-determined text old new₁ new₂ j k v w =
         let z = eqb-true (readProtocol text .refusal .number) 0 e in
         listing-one (readProtocol text .tables) (w .printed) (v .printed) (w .planned z) (v .planned z)
     same false e = let n = eqb-false (readProtocol text .refusal .number) 0 e in w .refused n ∙ sym (v .refused n)
+
+-- by value
+pub print-determined : (text : List ℕ) → Determines (λ (r : Printed). PlanPrinted text (replicate 2048 0) (r .bytes) (r .length))
+print-determined text r s v w = let q = printed-determined text (replicate 2048 0) (r .bytes) (s .bytes) (r .length) (s .length) v w in same (q .0) (q .1)
+  where
+    same : {m n : ℕ} {a b : List ℕ} → m ≡ n → a ≡ b → _≡_ {A = Printed} (record { bytes = a; length = m }) (record { bytes = b; length = n })
+    same e f = cc

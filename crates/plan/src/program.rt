@@ -1,10 +1,11 @@
 // What the planning program has to say of a text: the listing, or the line of a refusal.
 ghost use Prim.Native.Nat.{_≤_};
-ghost use lib.ListN.{length};
+ghost use lib.ListN.{length, replicate};
 ghost use Rattle.plan.specs.program.Printed.{PlanPrinted};
+use answers::Printed;
 
-// What the planning program prints. There is room for the longest answer within the limits.
-pub fn print_plan(text: &[u8], out: &mut [u8]) -> usize
+// What the planning program prints, at the front of out. There is room for the longest answer within the limits.
+fn put_plan(text: &[u8], out: &mut [u8]) -> usize
     requires { ⌜ 2048 ≤ length (now out) ⌝ }
     ensures { λ r. ⌜ PlanPrinted (now (text .entry)) (now (out .entry)) (now (out .exit)) r ⌝ }
 {
@@ -13,4 +14,16 @@ pub fn print_plan(text: &[u8], out: &mut [u8]) -> usize
         return a.length;
     }
     answers::refused_text::put_refused(out, a.refusal, a.paper)
+}
+
+// What the planning program prints. It asks nothing: the room is its own.
+pub fn print_plan(text: &[u8]) -> Printed
+    ensures { λ r. ⌜ PlanPrinted (now (text .entry)) (replicate 2048 0) (r .bytes) (r .length) ⌝ }
+{
+    let mut bytes = [0u8; answers::PRINTED];
+    let n = put_plan(text, &mut bytes);
+    Printed {
+        bytes: bytes,
+        length: n,
+    }
 }

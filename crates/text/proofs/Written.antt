@@ -1,6 +1,6 @@
 -- Laws of what is written, and of decimal numbers.
 use mathlib.Core.Path.{_≡_, refl, sym, ap, ap₂, _∙_}
-use mathlib.Core.Bool.{Bool, true, false}
+use mathlib.Core.Bool.{Bool, true, false, cond}
 use mathlib.Core.List.{List, [], _∷_, _++_, append-assoc, append-nil}
 use Prim.Native.Nat.{ℕ, zero, suc, _+_, _-_, _/_, _%_, _^_, _≤_, _<_}
 use native.Mathlib.Omega.{arith}
@@ -11,7 +11,7 @@ use lib.ListN.{length, take, drop, set, getD, length-append, length-take, length
 use lib.Seq.{take-suc, drop-cons, set-at, length-take-le, drop-drop, take-at, drop-at, take-all}
 use lib.Dec.{ltb}
 use borrow.Author.Tests.{lt-ltb, le-ltb, ltb-true, ltb-false}
-use Rattle.text.specs.Written.{wrote, Wrote, Pasted, pickText, digitsIn, decimal}
+use Rattle.text.specs.Written.{wrote, Wrote, Pasted, digitsIn, decimal}
 
 -- ---- at the front
 
@@ -49,8 +49,8 @@ more-fuel zero n h = absurd (omega arith)
 more-fuel (suc k) n h = go (ltb n 10) refl (λ g. more-fuel k (n / 10) g)
   where
     go : (t : Bool) → ltb n 10 ≡ t → (n / 10 < k → digitsIn (suc k) (n / 10) ≡ digitsIn k (n / 10))
-        → pickText (ltb n 10) ((n + 48) ∷ []) (digitsIn (suc k) (n / 10) ++ ((n % 10 + 48) ∷ []))
-        ≡ pickText (ltb n 10) ((n + 48) ∷ []) (digitsIn k (n / 10) ++ ((n % 10 + 48) ∷ []))
+        → cond (ltb n 10) ((n + 48) ∷ []) (digitsIn (suc k) (n / 10) ++ ((n % 10 + 48) ∷ []))
+        ≡ cond (ltb n 10) ((n + 48) ∷ []) (digitsIn k (n / 10) ++ ((n % 10 + 48) ∷ []))
     go true e f = rw e
     go false e f = rw (e, f (let g = ltb-false n 10 e in omega arith))
 

@@ -1,19 +1,15 @@
 -- Texts that are written: a number in decimal, and what a buffer holds after a text was written into it.
 use Prim.Native.Nat.{ℕ, zero, suc, _+_, _/_, _%_}
 use mathlib.Core.Path.{_≡_}
-use mathlib.Core.Bool.{Bool, true, false}
+use mathlib.Core.Bool.{cond}
 use mathlib.Core.List.{List, [], _∷_, _++_}
 use lib.ListN.{length, take, drop}
 use lib.Dec.{ltb}
 
-abbrev pub pickText : Bool → List ℕ → List ℕ → List ℕ
-pickText true a b = a
-pickText false a b = b
-
 -- The digits of n, highest first, where n has at most k of them.
 unfoldable pub digitsIn : ℕ → ℕ → List ℕ
 digitsIn zero n = []
-digitsIn (suc k) n = let rest = digitsIn k (n / 10) ++ ((n % 10 + 48) ∷ []) in pickText (ltb n 10) ((n + 48) ∷ []) rest
+digitsIn (suc k) n = let rest = digitsIn k (n / 10) ++ ((n % 10 + 48) ∷ []) in cond (ltb n 10) ((n + 48) ∷ []) rest
 
 -- n in decimal: there are at most n + 1 digits.
 unfoldable pub decimal : ℕ → List ℕ

@@ -4,15 +4,13 @@
 // One byte more than the largest text: so much tells that a text is too big.
 const MOST: usize = 49153;
 
-// Room for the longest listing.
-const ROOM: usize = 2048;
-
 fn main() {
     let mut protocol = [0u8; MOST];
     let n = files::read_file(b"protocol.tsv", &mut protocol);
     let mut mapping = [0u8; MOST];
     let m = files::read_file(b"mapping.tsv", &mut mapping);
-    let mut out = [0u8; ROOM];
-    let k = judge::program::print_judgement(&protocol[..n], &mapping[..m], &mut out);
-    io::write_all(1, &out[..k]);
+    let p = judge::program::print_judgement(&protocol[..n], &mapping[..m]);
+    let bytes = p.bytes;
+    let k = p.length;
+    io::write_all(1, &bytes[..k]);
 }
