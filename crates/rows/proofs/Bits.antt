@@ -87,40 +87,6 @@ bit-half row j =
     let e : row / 2 / 2 ^ j ≡ row / 2 ^ suc j = shr-shr row 1 j ∙ ap (λ (k : ℕ). row / 2 ^ k) (add-comm 1 j ∙ add-one j) in
     (λ h. omega (arith, e), λ h. omega (arith, e))
 
--- ---- the lowest bit
-
-under-cases : (d t : ℕ) → d < 2 → ((d ≡ 0) × (under d t ≡ suc t)) ⊎ ((d ≡ 1) × (under d t ≡ 0))
-under-cases zero t h = inl (refl, refl)
-under-cases (suc zero) t h = inr (refl, refl)
-under-cases (suc (suc d)) t h = absurd (omega arith)
-
-pub trailing-bit : (w row : ℕ) → trailingZeros w row < w → Bit row (trailingZeros w row)
-unfolding trailingZeros
-trailing-bit zero row h = absurd (omega arith)
-trailing-bit (suc w) row h = go (trailing-bit w (row / 2)) (under-cases (row % 2) (trailingZeros w (row / 2)) (omega arith))
-  where
-    go : (trailingZeros w (row / 2) < w → Bit (row / 2) (trailingZeros w (row / 2)))
-        → ((row % 2 ≡ 0) × (under (row % 2) (trailingZeros w (row / 2)) ≡ suc (trailingZeros w (row / 2)))) ⊎ ((row % 2 ≡ 1) × (under (row % 2) (trailingZeros w (row / 2)) ≡ 0))
-        → Bit row (under (row % 2) (trailingZeros w (row / 2)))
-    go ih (inl t) = rw (t .1) (bit-half row (trailingZeros w (row / 2)) .0 (ih (omega (arith, t .1))))
-    go ih (inr t) = rw (t .1) (omega (arith, div-one row, t .0))
-
--- below it there is none; where the count is the whole width, there is no bit below the width
-pub trailing-none : (w row j : ℕ) → j < trailingZeros w row → ¬ Bit row j
-unfolding trailingZeros
-trailing-none zero row j h b = absurd (omega arith)
-trailing-none (suc w) row zero h b = go (under-cases (row % 2) (trailingZeros w (row / 2)) (omega arith))
-  where
-    go : ((row % 2 ≡ 0) × (under (row % 2) (trailingZeros w (row / 2)) ≡ suc (trailingZeros w (row / 2)))) ⊎ ((row % 2 ≡ 1) × (under (row % 2) (trailingZeros w (row / 2)) ≡ 0)) → ⊥
-    go (inl t) = omega (arith, t .0, div-one row)
-    go (inr t) = omega (arith, t .1)
-trailing-none (suc w) row (suc j) h b = go (trailing-none w (row / 2) j) (under-cases (row % 2) (trailingZeros w (row / 2)) (omega arith))
-  where
-    go : (j < trailingZeros w (row / 2) → ¬ Bit (row / 2) j)
-        → ((row % 2 ≡ 0) × (under (row % 2) (trailingZeros w (row / 2)) ≡ suc (trailingZeros w (row / 2)))) ⊎ ((row % 2 ≡ 1) × (under (row % 2) (trailingZeros w (row / 2)) ≡ 0)) → ⊥
-    go ih (inl t) = ih (omega (arith, t .1)) (bit-half row j .1 b)
-    go ih (inr t) = omega (arith, t .1)
-
 -- ---- a row that is zero, or has a bit
 
 pub no-bits : (w row : ℕ) → row < 2 ^ w → ((j : ℕ) → j < w → ¬ Bit row j) → row ≡ 0
@@ -174,6 +140,52 @@ bit-below w row j h b = go (compare j w)
     go (inr (inl e)) = absurd (omega (arith, bit-le row j b, ap (λ (k : ℕ). 2 ^ k) e))
     go (inr (inr l)) = absurd (omega (arith, bit-le row j b, pow-lt l))
 
+-- ---- the lowest bit
+
+under-cases : (d t : ℕ) → d < 2 → ((d ≡ 0) × (under d t ≡ suc t)) ⊎ ((d ≡ 1) × (under d t ≡ 0))
+under-cases zero t h = inl (refl, refl)
+under-cases (suc zero) t h = inr (refl, refl)
+under-cases (suc (suc d)) t h = absurd (omega arith)
+
+pub trailing-bit : (w row : ℕ) → trailingZeros w row < w → Bit row (trailingZeros w row)
+unfolding trailingZeros
+trailing-bit zero row h = absurd (omega arith)
+trailing-bit (suc w) row h = go (trailing-bit w (row / 2)) (under-cases (row % 2) (trailingZeros w (row / 2)) (omega arith))
+  where
+    go : (trailingZeros w (row / 2) < w → Bit (row / 2) (trailingZeros w (row / 2)))
+        → ((row % 2 ≡ 0) × (under (row % 2) (trailingZeros w (row / 2)) ≡ suc (trailingZeros w (row / 2)))) ⊎ ((row % 2 ≡ 1) × (under (row % 2) (trailingZeros w (row / 2)) ≡ 0))
+        → Bit row (under (row % 2) (trailingZeros w (row / 2)))
+    go ih (inl t) = rw (t .1) (bit-half row (trailingZeros w (row / 2)) .0 (ih (omega (arith, t .1))))
+    go ih (inr t) = rw (t .1) (omega (arith, div-one row, t .0))
+
+-- below it there is none; where the count is the whole width, there is no bit below the width
+pub trailing-none : (w row j : ℕ) → j < trailingZeros w row → ¬ Bit row j
+unfolding trailingZeros
+trailing-none zero row j h b = absurd (omega arith)
+trailing-none (suc w) row zero h b = go (under-cases (row % 2) (trailingZeros w (row / 2)) (omega arith))
+  where
+    go : ((row % 2 ≡ 0) × (under (row % 2) (trailingZeros w (row / 2)) ≡ suc (trailingZeros w (row / 2)))) ⊎ ((row % 2 ≡ 1) × (under (row % 2) (trailingZeros w (row / 2)) ≡ 0)) → ⊥
+    go (inl t) = omega (arith, t .0, div-one row)
+    go (inr t) = omega (arith, t .1)
+trailing-none (suc w) row (suc j) h b = go (trailing-none w (row / 2) j) (under-cases (row % 2) (trailingZeros w (row / 2)) (omega arith))
+  where
+    go : (j < trailingZeros w (row / 2) → ¬ Bit (row / 2) j)
+        → ((row % 2 ≡ 0) × (under (row % 2) (trailingZeros w (row / 2)) ≡ suc (trailingZeros w (row / 2)))) ⊎ ((row % 2 ≡ 1) × (under (row % 2) (trailingZeros w (row / 2)) ≡ 0)) → ⊥
+    go ih (inl t) = ih (omega (arith, t .1)) (bit-half row j .1 b)
+    go ih (inr t) = omega (arith, t .1)
+
+-- it is the lowest of a row that is not 0
+pub lowest-place : (w row : ℕ) → row < 2 ^ w → 0 < row → Lowest w row (trailingZeros w row)
+lowest-place w row h p = go (decLt (trailingZeros w row) w)
+  where
+    go : Dec (trailingZeros w row < w) → Lowest w row (trailingZeros w row)
+    go (no d) = absurd (omega (arith, no-bits w row h (λ j k. trailing-none w row j (omega (arith, trailing-le w row)))))
+    go (yes k) = record { below = k; bit = trailing-bit w row k; least = λ z b. least z b (decLe (trailingZeros w row) z) }
+      where
+        least : (z : ℕ) → Bit row z → Dec (trailingZeros w row ≤ z) → trailingZeros w row ≤ z
+        least z b (yes q) = q
+        least z b (no q) = absurd (trailing-none w row z (omega arith) b)
+
 -- ---- a bit set, a bit cleared
 
 -- `row | 1 << j` at w bits
@@ -206,12 +218,22 @@ bit-clear row (suc j) (suc i) b =
       λ t. bit-half (row - 2 ^ suc j) i .0 (subst (λ (r : ℕ). Bit r i) (sym e) (ih .1 (bit-half row i .1 (t .0), λ z. t .1 (ap suc z)))),
     )
 
+-- `row - (1 << j)` at w bits
+shifted : (w j : ℕ) → j < w → 1 * 2 ^ j % 2 ^ w ≡ 2 ^ j
+shifted w j h = shl-exact {a = 1} 1 j w (lit< tt) (omega arith) ∙ one-mul (2 ^ j)
+
+pub shifted-le : (w row j : ℕ) → j < w → Bit row j → 1 * 2 ^ j % 2 ^ w ≤ row
+shifted-le w row j h b = omega (arith, shifted w j h, bit-le row j b)
+
+pub clear-place : (w row j : ℕ) → j < w → Bit row j → Without row j (row - 1 * 2 ^ j % 2 ^ w)
+clear-place w row j h b = rw (shifted w j h) (record { bits = λ i. bit-clear row j i b; less = omega (arith, bit-le row j b, pow-pos j) })
+
 -- ---- the bits from a place on
 
 pub bit-shr : (row n j : ℕ) → Bit (row / 2 ^ n) j ↔ Bit row (n + j)
 bit-shr row n j = (λ b. omega (arith, shr-shr row n j), λ b. omega (arith, shr-shr row n j))
 
--- `row >> n` is 0: there are none
+-- nothing is left of the row after n bits are shifted out: there are none
 pub none-from : (row n j : ℕ) → row / 2 ^ n ≡ 0 → n ≤ j → ¬ Bit row j
 none-from row n j e h b =
     let d = le-dest h in
@@ -280,27 +302,3 @@ ones-shifted w n h =
 -- every bit of a row, shifted to the right until n are left
 pub all-below : (w n : ℕ) → n ≤ w → AllBelow n ((2 ^ w - 1) / 2 ^ (w - n))
 all-below w n h = record { bits = λ j. rw (ones-shifted w n h) (ones-bits n j) }
-
--- ---- the lowest bit of a row that is not 0
-
-pub lowest-place : (w row : ℕ) → row < 2 ^ w → 0 < row → Lowest w row (trailingZeros w row)
-lowest-place w row h p = go (decLt (trailingZeros w row) w)
-  where
-    go : Dec (trailingZeros w row < w) → Lowest w row (trailingZeros w row)
-    go (no d) = absurd (omega (arith, no-bits w row h (λ j k. trailing-none w row j (omega (arith, trailing-le w row)))))
-    go (yes k) = record { below = k; bit = trailing-bit w row k; least = λ z b. least z b (decLe (trailingZeros w row) z) }
-      where
-        least : (z : ℕ) → Bit row z → Dec (trailingZeros w row ≤ z) → trailingZeros w row ≤ z
-        least z b (yes q) = q
-        least z b (no q) = absurd (trailing-none w row z (omega arith) b)
-
--- ---- `row - (1 << j)` at w bits
-
-shifted : (w j : ℕ) → j < w → 1 * 2 ^ j % 2 ^ w ≡ 2 ^ j
-shifted w j h = shl-exact {a = 1} 1 j w (lit< tt) (omega arith) ∙ one-mul (2 ^ j)
-
-pub shifted-le : (w row j : ℕ) → j < w → Bit row j → 1 * 2 ^ j % 2 ^ w ≤ row
-shifted-le w row j h b = omega (arith, shifted w j h, bit-le row j b)
-
-pub clear-place : (w row j : ℕ) → j < w → Bit row j → Without row j (row - 1 * 2 ^ j % 2 ^ w)
-clear-place w row j h b = rw (shifted w j h) (record { bits = λ i. bit-clear row j i b; less = omega (arith, bit-le row j b, pow-pos j) })
