@@ -14,6 +14,8 @@ use Rattle.tables.specs.declared.Tables.{Tables}
 use Rattle.tables.specs.Cells.{relationsOfTables}
 use Rattle.protocol.specs.Reading.{readProtocol}
 use Rattle.answers.specs.declared.Answer.{Answer}
+use lib.ListN.{replicate}
+use Rattle.determined.specs.Determined.{Determines}
 use Rattle.answers.specs.declared.Printed.{Printed}
 use Rattle.answers.specs.Answers.{Listed}
 use Rattle.judge_listing.specs.JudgeText.{ShownStep, unfitText}
@@ -23,7 +25,7 @@ use Rattle.judge.specs.Call.{Shows, ShowsAll, UnfitListing, JudgeListing
 use Rattle.judge.specs.Determined.{JudgeDetermined}
 use Rattle.text.specs.Written.{Wrote}
 use Rattle.text.proofs.Determined.{wrote-determined}
-use Rattle.judge.specs.program.Printed.{MappingPrinted}
+use Rattle.judge.specs.program.Printed.{MappingPrinted, JudgePrinted}
 use Rattle.judge.specs.program.Determined.{JudgePrintedDetermined}
 
 -- ---- the steps

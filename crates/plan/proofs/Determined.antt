@@ -17,6 +17,8 @@ use Rattle.tables.specs.declared.Tables.{Tables}
 use Rattle.tables.specs.Tables.{messagesOf}
 use Rattle.tables.specs.Cells.{relationsOfTables}
 use Rattle.protocol.specs.Reading.{readProtocol}
+use Rattle.answers.specs.declared.Printed.{Printed}
+use Rattle.plan.specs.program.Printed.{PlanPrinted}
 use Rattle.answers.specs.Answers.{Listed}
 use Rattle.answers.proofs.Determined.{refusal-determined, listed-determined}
 use Rattle.plan_listing.specs.PlanText.{classThree, classTwo}
