@@ -164,12 +164,12 @@ fn read_cells(text: &[u8], from: usize, first: usize, given: Tables) -> Reading
             let why = lines::misplaced::misplaced(part, f, line);
             return crate::whole::refused_at(why);
         }
-        let r = cell_of(part, f, line, t);
-        if r.refusal.number != 0 {
-            return crate::whole::refused_at(r.refusal);
+        let told = cell_of(part, f, line, t);
+        if told.refusal.number != 0 {
+            return crate::whole::refused_at(told.refusal);
         }
         let count = t.cell_count;
-        let row = r.cell;
+        let row = told.cell;
         t.cells[count] = row;
         t.cell_count = count + 1;
         at = e + 1;
