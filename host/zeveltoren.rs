@@ -66,17 +66,22 @@ pub struct Answer {
     pub networks: usize,
     /// The number of waits pairs.
     pub pairs: usize,
+    /// The number of row joins in closing the causes: for a scheduler that
+    /// wants to know how much work that was. At most n times n.
+    pub joins: usize,
 }
 
 impl Answer {
     /// Bits 0 to 7 are the refusal number, 8 to 15 the length, 16 to 23 the
-    /// least count, 24 to 31 the length needed, 32 to 47 the waits pairs.
+    /// least count, 24 to 31 the length needed, 32 to 47 the waits pairs, 48 to
+    /// 63 the joins.
     pub fn of(packed: u64) -> Answer {
         Answer {
             refusal: Refusal::of(packed),
             length: field(packed, 8, 8) as usize,
             networks: field(packed, 16, 8) as usize,
             pairs: field(packed, 32, 16) as usize,
+            joins: field(packed, 48, 16) as usize,
         }
     }
 
