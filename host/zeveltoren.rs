@@ -127,6 +127,27 @@ pub fn relations_packed(n: u64, causes: &[u8], stalls: &[u8], out: &mut [u8]) ->
     }
 }
 
+/// The most bytes of stack that a call takes, its return address counted.
+pub const MOST_STACK: usize = 1_024;
+
+/// Where the call stands, for who measures its stack.
+pub fn relations_address() -> usize {
+    vn_relations as *const () as usize
+}
+
+/// The words of the call, as they go over to the library.
+pub fn relations_words(n: u64, causes: &[u8], stalls: &[u8], out: &mut [u8]) -> [usize; 7] {
+    [
+        n as usize,
+        causes.as_ptr() as usize,
+        causes.len(),
+        stalls.as_ptr() as usize,
+        stalls.len(),
+        out.as_mut_ptr() as usize,
+        out.len(),
+    ]
+}
+
 /// Sets the pair (from, to) in a table of rows.
 pub fn set_pair(table: &mut [u8], from: usize, to: usize) {
     table[4 * from + to / 8] |= 1 << (to % 8);

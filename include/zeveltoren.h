@@ -92,6 +92,8 @@ extern "C" {
  * row that holds k at that moment takes in row k, and that is one join. So
  * there are at most n * n joins. The stalls have no part in it.
  *
+ * A call takes at most 1,024 bytes of stack, the return address counted.
+ *
  * What the caller owes: each pointer is good for as many bytes as the length
  * after it says, and out shares no byte with the tables. (causes and stalls
  * may be the same.) Nothing needs to be aligned. Nothing else is asked.
