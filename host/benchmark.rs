@@ -4,7 +4,8 @@
 //!   host/build run benchmark
 //!
 //! Library, fast variant and plain variant get the same inputs in the same
-//! run, in turn, and all are optimised. Each figure is the median of several
+//! run, in turn, and all are optimised. All three count row joins: their answers
+//! are compared before they are timed. Each figure is the median of several
 //! rounds; so is a ratio, each of one round, because a busy machine slows both
 //! sides of it. Times are those that the thread had a processor. Under an
 //! emulator they are those of translated code: trust the ratios of x86-64.
@@ -19,7 +20,7 @@ use random::{Random, Tables};
 
 /// What we aim at: this many times the fast variant, and so many bytes.
 const MOST_RATIO: f64 = 1.5;
-const MOST_STACK: usize = 2_048;
+const MOST_STACK: usize = zeveltoren::MOST_STACK;
 
 const ROUNDS: usize = 15;
 /// How many relations a line of the table is measured with.
@@ -201,100 +202,42 @@ fn print_times() -> f64 {
 // Stack
 // ---------------------------------------------------------------------
 
-#[cfg(target_arch = "x86_64")]
-mod stack {
-    use crate::random::Tables;
-    use std::arch::asm;
-
-    /// The exported call, or another of the same form.
-    pub type Exported =
-        unsafe extern "C" fn(u64, *const u8, usize, *const u8, usize, *mut u8, usize) -> u64;
-
-    extern "C" {
-        pub fn vn_relations(
-            n: u64,
-            causes: *const u8,
-            causes_length: usize,
-            stalls: *const u8,
-            stalls_length: usize,
-            out: *mut u8,
-            out_length: usize,
-        ) -> u64;
-    }
-
-    /// The fast variant, in the form of the exported call.
-    pub unsafe extern "C" fn fast(
-        n: u64,
-        causes: *const u8,
-        causes_length: usize,
-        stalls: *const u8,
-        stalls_length: usize,
-        out: *mut u8,
-        out_length: usize,
-    ) -> u64 {
-        let causes = std::slice::from_raw_parts(causes, causes_length);
-        let stalls = std::slice::from_raw_parts(stalls, stalls_length);
-        let out = std::slice::from_raw_parts_mut(out, out_length);
-        crate::second::relations_fast(n, causes, stalls, out).packed()
-    }
-
-    /// How many bytes below the caller's frame a call writes to: it runs on a
-    /// painted stack of its own. Counted are the return address and what the
-    /// call pushes; not the seventh argument, which is the caller's.
-    pub fn used(function: Exported, tables: &Tables) -> usize {
-        let mut out = [0_u8; 32];
-        crate::measure::painted(|top| {
-            unsafe { call_on(top, function, tables, &mut out) };
-        }) - 16
-    }
-
-    /// The seventh argument goes on the stack, at an address that 16 divides.
-    unsafe fn call_on(top: usize, function: Exported, tables: &Tables, out: &mut [u8]) -> u64 {
-        let answer: u64;
-        asm!(
-            "mov r12, rsp",
-            "mov rsp, r13",
-            "sub rsp, 8",
-            "push r14",
-            "call r15",
-            "mov rsp, r12",
-            in("rdi") tables.count as u64,
-            in("rsi") tables.causes.as_ptr(),
-            in("rdx") tables.causes.len(),
-            in("rcx") tables.stalls.as_ptr(),
-            in("r8") tables.stalls.len(),
-            in("r9") out.as_mut_ptr(),
-            out("r12") _,
-            in("r13") top,
-            in("r14") out.len(),
-            in("r15") function,
-            out("rax") answer,
-            clobber_abi("C"),
-        );
-        answer
-    }
+/// The fast variant, in the form of the exported call.
+unsafe extern "C" fn exported_fast(
+    n: u64,
+    causes: *const u8,
+    causes_length: usize,
+    stalls: *const u8,
+    stalls_length: usize,
+    out: *mut u8,
+    out_length: usize,
+) -> u64 {
+    let causes = std::slice::from_raw_parts(causes, causes_length);
+    let stalls = std::slice::from_raw_parts(stalls, stalls_length);
+    let out = std::slice::from_raw_parts_mut(out, out_length);
+    second::relations_fast(n, causes, stalls, out).packed()
 }
 
-/// The most stack over all inputs of the table.
-#[cfg(target_arch = "x86_64")]
+fn stack_used(function: usize, tables: &Tables) -> usize {
+    let mut out = [0; 32];
+    let words = zeveltoren::relations_words(tables.count as u64, &tables.causes, &tables.stalls, &mut out);
+    measure::stack_and_answer(function, words).0
+}
+
+/// The most stack over all inputs of the table. host/stack_tests.rs has more,
+/// and fails above the limit.
 fn print_stack() -> usize {
     let (mut library, mut fast) = (0, 0);
     for count in COUNTS {
         for kind in &KINDS {
             for tables in &inputs(kind, count) {
-                library = library.max(stack::used(stack::vn_relations, tables));
-                fast = fast.max(stack::used(stack::fast, tables));
+                library = library.max(stack_used(zeveltoren::relations_address(), tables));
+                fast = fast.max(stack_used(exported_fast as *const () as usize, tables));
             }
         }
     }
     println!("stack of a call: library {} bytes, fast variant {} bytes", library, fast);
     library
-}
-
-#[cfg(not(target_arch = "x86_64"))]
-fn print_stack() -> usize {
-    println!("stack of a call: measured on x86-64 only");
-    0
 }
 
 fn main() {

@@ -1,5 +1,6 @@
 //! What the benchmarks share: a clock that leaves waiting out, the median, and
-//! a painted stack that tells how much of it a call takes.
+//! a painted stack that tells how much of it a call takes. The test of the
+//! relations call's stack has it too.
 
 #![allow(dead_code)]
 
@@ -42,32 +43,42 @@ pub fn kept(kept: bool) -> &'static str {
 const PAINT: u64 = 0xa5c3_96e1_78d2_b4f0;
 const WORDS: usize = 262_144;
 
-/// How many bytes below the top of a painted stack are written to by what runs
-/// on it. The call is given the top, an address that 16 divides.
-pub fn painted(call: impl FnOnce(usize)) -> usize {
+/// How many bytes of stack a call takes, whose arguments go in registers.
+pub fn stack_used(function: usize, words: [usize; 6]) -> usize {
+    let [a, b, c, d, e, f] = words;
+    stack_and_answer(function, [a, b, c, d, e, f, 0]).0
+}
+
+/// How many bytes of stack a call takes, and what it returns. It runs on a
+/// painted stack of its own, and takes what it has written to and all above.
+/// The return address is counted; the seventh argument, which goes on the
+/// stack, is the caller's and is not.
+#[cfg(target_arch = "x86_64")]
+pub fn stack_and_answer(function: usize, words: [usize; 7]) -> (usize, u64) {
     let mut painted = vec![PAINT; WORDS];
     let top = painted.as_mut_ptr_range().end as usize & !15;
-    call(top);
+    let answer = unsafe { call_on(top, function, words) };
     let untouched = painted.iter().take_while(|word| **word == PAINT).count();
-    top - (painted.as_ptr() as usize + 8 * untouched)
+    (top - SEVENTH - (painted.as_ptr() as usize + 8 * untouched), answer)
 }
 
-/// How many bytes of stack a call takes whose arguments go in registers.
-#[cfg(target_arch = "x86_64")]
-pub fn stack_used(function: usize, words: [usize; 6]) -> usize {
-    painted(|top| unsafe { call_on(top, function, words) })
-}
-
+/// The library is x86-64 code, and so is whatever is linked to it.
 #[cfg(not(target_arch = "x86_64"))]
-pub fn stack_used(_function: usize, _words: [usize; 6]) -> usize {
-    0
+pub fn stack_and_answer(_function: usize, _words: [usize; 7]) -> (usize, u64) {
+    panic!("stack is measured on x86-64 only");
 }
 
+/// What the seventh argument takes on the stack: 16 divides its address.
+const SEVENTH: usize = 16;
+
 #[cfg(target_arch = "x86_64")]
-unsafe fn call_on(top: usize, function: usize, words: [usize; 6]) {
+unsafe fn call_on(top: usize, function: usize, words: [usize; 7]) -> u64 {
+    let answer: u64;
     std::arch::asm!(
         "mov r12, rsp",
         "mov rsp, r13",
+        "sub rsp, 8",
+        "push r14",
         "call r15",
         "mov rsp, r12",
         in("rdi") words[0],
@@ -78,7 +89,10 @@ unsafe fn call_on(top: usize, function: usize, words: [usize; 6]) {
         in("r9") words[5],
         out("r12") _,
         in("r13") top,
+        in("r14") words[6],
         in("r15") function,
+        out("rax") answer,
         clobber_abi("C"),
     );
+    answer
 }

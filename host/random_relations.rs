@@ -84,14 +84,16 @@ fn shown(byte: u8) -> char {
     }
 }
 
-/// Makes the call and gives its line.
+/// Makes the call and gives its line. That of an accepted call ends in the word
+/// `joins` and their number; that of a refused call has neither.
 fn line(n: u64, causes: &[u8], stalls: &[u8], room: usize) -> String {
     let answer = second::relations(n, causes, stalls, room);
     let mut out = vec![UNTOUCHED; room];
     out[..answer.bytes.len()].copy_from_slice(&answer.bytes);
-    let second::Numbers { number, length, networks, needed, pairs } = answer.numbers();
+    let second::Numbers { number, length, networks, needed, pairs, joins } = answer.numbers();
     let output: String = out.into_iter().map(shown).collect();
-    format!("{} {} {} {} {} {} {}", n, number, length, networks, needed, pairs, output)
+    let told = if number == 0 { format!(" joins {}", joins) } else { String::new() };
+    format!("{} {} {} {} {} {} {}{}", n, number, length, networks, needed, pairs, output, told)
 }
 
 /// One turn, in the six steps of the comment.

@@ -36,10 +36,10 @@ static struct example of_messages(const char *name, unsigned n)
 
 /* The packed number, put together from its parts. */
 static uint64_t pack(unsigned refusal, unsigned length, unsigned networks, unsigned needed,
-                     unsigned pairs)
+                     unsigned pairs, unsigned joins)
 {
     return refusal + (length << 8) + (networks << 16) + ((uint64_t)needed << 24)
-        + ((uint64_t)pairs << 32);
+        + ((uint64_t)pairs << 32) + ((uint64_t)joins << 48);
 }
 
 /* Whether out starts with the right bytes and is untouched after them. */
@@ -54,6 +54,14 @@ static int bytes_are_right(const struct example *example, const uint8_t *out)
     return 1;
 }
 
+/* Whether the joins, as the header takes them out, are within their bound. */
+static int joins_are_right(const struct example *example, uint64_t answer)
+{
+    if (vn_refusal(answer) != VN_ACCEPTED)
+        return vn_joins(answer) == 0;
+    return vn_joins(answer) == example->right >> 48 && vn_joins(answer) <= example->n * example->n;
+}
+
 static void check(const struct example *example)
 {
     uint8_t out[ROOM];
@@ -63,10 +71,11 @@ static void check(const struct example *example)
     memset(out, UNTOUCHED, sizeof out);
     answer = vn_relations(example->n, example->causes, example->causes_length, example->stalls,
                           example->stalls_length, out, example->room);
-    right = answer == example->right && bytes_are_right(example, out);
-    printf("%-28s refusal %2u class %u networks %2u pairs %3u needed %2u:", example->name,
-           vn_refusal(answer), vn_class(answer), vn_networks(answer), vn_pairs(answer),
-           (unsigned)vn_needed(answer));
+    right = answer == example->right && bytes_are_right(example, out)
+        && joins_are_right(example, answer);
+    printf("%-28s refusal %2u class %u networks %2u pairs %4u joins %4u needed %2u:",
+           example->name, vn_refusal(answer), vn_class(answer), vn_networks(answer),
+           vn_pairs(answer), vn_joins(answer), (unsigned)vn_needed(answer));
     for (i = 0; i < vn_length(answer) && i < ROOM; i++)
         printf(" %u", out[i]);
     printf("%s\n", right ? "" : " WRONG");
@@ -75,7 +84,8 @@ static void check(const struct example *example)
 }
 
 /* Ask 0, Pass 1, Give 2, Done 3. Ask stalls Ask and reaches the three others,
- * so Ask waits for each of them: 3 pairs. The others wait for nothing. */
+ * so Ask waits for each of them: 3 pairs. The others wait for nothing. Row 0
+ * takes in row 1, rows 0 and 1 row 2, rows 0 to 2 row 3: 6 joins. */
 static struct example bell(void)
 {
     struct example example = of_messages("Bell", 4);
@@ -83,13 +93,14 @@ static struct example bell(void)
     vn_set_pair(example.causes, 1, 2);
     vn_set_pair(example.causes, 2, 3);
     vn_set_pair(example.stalls, 0, 0);
-    example.right = pack(0, 4, 2, 0, 3);
+    example.right = pack(0, 4, 2, 0, 3, 6);
     example.right_bytes[0] = 1;
     return example;
 }
 
 /* Case 8 of the paper: a causes b, c causes d; a stalls d, c stalls b. So d
- * waits for b and b for d: 2 pairs, and the cycle b d. */
+ * waits for b and b for d: 2 pairs, and the cycle b d. Row a takes in row b,
+ * row c row d: 2 joins. */
 static struct example case_8(void)
 {
     struct example example = of_messages("case 8", 4);
@@ -97,14 +108,15 @@ static struct example case_8(void)
     vn_set_pair(example.causes, 2, 3);
     vn_set_pair(example.stalls, 0, 3);
     vn_set_pair(example.stalls, 2, 1);
-    example.right = pack(0, 2, 0, 0, 2);
+    example.right = pack(0, 2, 0, 0, 2, 2);
     example.right_bytes[0] = 1;
     example.right_bytes[1] = 3;
     return example;
 }
 
 /* Case 10: 32 messages, i causes i + 1, each stalls itself. Message i waits
- * for all after it: 31 + 30 + .. + 1 pairs. */
+ * for all after it: 31 + 30 + .. + 1 pairs. Row k is taken in by the k rows
+ * before it: 1 + 2 + .. + 31 joins. */
 static struct example case_10(void)
 {
     struct example example = of_messages("case 10", 32);
@@ -115,17 +127,38 @@ static struct example case_10(void)
         vn_set_pair(example.stalls, i, i);
         example.right_bytes[i] = (uint8_t)(31 - i);
     }
-    example.right = pack(0, 32, 32, 0, 496);
+    example.right = pack(0, 32, 32, 0, 496, 496);
     return example;
 }
 
-/* All causes and all stalls of 32 messages: the most pairs. */
+/* 4 messages, i + 1 causes i, no stalls: when it is row k's turn, only row k + 1
+ * holds k, so there are 3 joins, though 6 pairs of causes when closed. */
+static struct example backwards(void)
+{
+    struct example example = of_messages("a chain backwards", 4);
+    vn_set_pair(example.causes, 1, 0);
+    vn_set_pair(example.causes, 2, 1);
+    vn_set_pair(example.causes, 3, 2);
+    example.right = pack(0, 4, 1, 0, 0, 3);
+    return example;
+}
+
+/* a causes a and stalls nothing: its row holds itself, 1 join. */
+static struct example own_cause(void)
+{
+    struct example example = of_messages("one message causes itself", 1);
+    vn_set_pair(example.causes, 0, 0);
+    example.right = pack(0, 1, 1, 0, 0, 1);
+    return example;
+}
+
+/* All causes and all stalls of 32 messages: the most pairs, and the most joins. */
 static struct example fullest(void)
 {
     struct example example = of_messages("everything", 32);
     memset(example.causes, 0xff, 128);
     memset(example.stalls, 0xff, 128);
-    example.right = pack(0, 1, 0, 0, 1024);
+    example.right = pack(0, 1, 0, 0, 1024, 1024);
     return example;
 }
 
@@ -140,6 +173,10 @@ static void check_answers(void)
     check(&example);
     example = case_10();
     check(&example);
+    example = backwards();
+    check(&example);
+    example = own_cause();
+    check(&example);
     example = fullest();
     check(&example);
 }
@@ -147,13 +184,13 @@ static void check_answers(void)
 static void check_count(void)
 {
     struct example example = of_messages("no message", 0);
-    example.right = pack(VN_COUNT, 0, 0, 0, 0);
+    example.right = pack(VN_COUNT, 0, 0, 0, 0, 0);
     check(&example);
     example = of_messages("33 messages", 33);
-    example.right = pack(VN_COUNT, 0, 0, 0, 0);
+    example.right = pack(VN_COUNT, 0, 0, 0, 0, 0);
     check(&example);
     example = bell();
-    example.right = pack(VN_COUNT, 0, 0, 0, 0);
+    example.right = pack(VN_COUNT, 0, 0, 0, 0, 0);
     example.name = "Bell, 2^32 + 4 messages";
     example.n = ((uint64_t)1 << 32) + 4;
     check(&example);
@@ -170,17 +207,17 @@ static void check_count(void)
 static void check_stray_and_room(void)
 {
     struct example example = bell();
-    example.right = pack(VN_STRAY, 0, 0, 0, 0);
+    example.right = pack(VN_STRAY, 0, 0, 0, 0, 0);
     example.name = "Bell, Done stalls message 4";
     vn_set_pair(example.stalls, 3, 4);
     check(&example);
     example = bell();
-    example.right = pack(VN_ROOM, 0, 0, 4, 0);
+    example.right = pack(VN_ROOM, 0, 0, 4, 0, 0);
     example.name = "Bell, room for 3";
     example.room = 3;
     check(&example);
     example = case_8();
-    example.right = pack(VN_ROOM, 0, 0, 4, 0);
+    example.right = pack(VN_ROOM, 0, 0, 4, 0, 0);
     example.name = "case 8, room for the cycle";
     example.room = 2;
     check(&example);

@@ -86,6 +86,15 @@ fn check_against(call: &Call, right: &second::Answer, label: &dyn Fn() -> String
         );
     }
     check_wrapped(packed, right);
+    check_joins(call, packed);
+}
+
+/// "at most n times n for n messages", and "0 with a refusal", whatever the
+/// second program says.
+fn check_joins(call: &Call, packed: u64) {
+    let answer = zeveltoren::Answer::of(packed);
+    let most = if answer.refusal.is_none() { call.n * call.n } else { 0 };
+    assert!(answer.joins as u64 <= most, "{:?} {:?}", call, answer);
 }
 
 /// The wrapper takes the packed number apart as the paper packs it.
@@ -95,6 +104,7 @@ fn check_wrapped(packed: u64, right: &second::Answer) {
     assert_eq!(answer.length as u64, right.length);
     assert_eq!(answer.networks as u64, right.networks);
     assert_eq!(answer.pairs as u64, right.pairs);
+    assert_eq!(answer.joins as u64, right.joins);
     if let Some(zeveltoren::Refusal::Room { needed }) = answer.refusal {
         assert_eq!(needed as u64, right.needed);
     }
@@ -105,7 +115,7 @@ fn check_wrapped(packed: u64, right: &second::Answer) {
 fn refused(call: &Call, number: u64, label: &str) {
     let needed = if number == ROOM { call.n } else { 0 };
     let right = check(call, &|| label.to_string());
-    let numbers = second::Numbers { number, length: 0, networks: 0, needed, pairs: 0 };
+    let numbers = second::Numbers { number, length: 0, networks: 0, needed, pairs: 0, joins: 0 };
     assert_eq!(right.numbers(), numbers, "{}", label);
     assert_eq!(right.packed(), number + (needed << 24), "{}", label);
 }
@@ -139,12 +149,13 @@ fn tables_of(count: usize, causes: &[(usize, usize)], stalls: &[(usize, usize)])
     tables
 }
 
-/// A case with its answer as the paper prints it.
-fn case(tables: Tables, networks: usize, pairs: usize, bytes: &[u8]) {
+/// A case with its answer as the paper prints it, and the pairs and joins as
+/// worked out by hand.
+fn case(tables: Tables, networks: usize, pairs: usize, joins: usize, bytes: &[u8]) {
     let mut out = [0xee; MOST_MESSAGES + 1];
     let answer =
         zeveltoren::relations(tables.count as u64, &tables.causes, &tables.stalls, &mut out);
-    let right = zeveltoren::Answer { refusal: None, length: bytes.len(), networks, pairs };
+    let right = zeveltoren::Answer { refusal: None, length: bytes.len(), networks, pairs, joins };
     assert_eq!(answer, right);
     assert_eq!(answer.class(), Some(if networks == 0 { 2 } else { 3 }));
     assert_eq!(&out[..bytes.len()], bytes);
@@ -154,15 +165,15 @@ fn case(tables: Tables, networks: usize, pairs: usize, bytes: &[u8]) {
 #[test]
 fn cases_of_the_paper() {
     let chain_of_4 = [(0, 1), (1, 2), (2, 3)];
-    case(tables_of(1, &[], &[]), 1, 0, &[0]);
-    case(tables_of(1, &[], &[(0, 0)]), 1, 0, &[0]);
-    case(tables_of(1, &[(0, 0)], &[(0, 0)]), 0, 1, &[0]);
-    case(tables_of(4, &chain_of_4, &[]), 1, 0, &[0, 0, 0, 0]);
-    case(tables_of(4, &chain_of_4, &[(0, 0)]), 2, 3, &[1, 0, 0, 0]);
-    case(tables_of(4, &[(0, 1), (3, 2)], &[(0, 0), (3, 1)]), 3, 2, &[2, 1, 0, 0]);
-    case(tables_of(4, &[(0, 1), (2, 3)], &[(0, 3), (2, 1)]), 0, 2, &[1, 3]);
+    case(tables_of(1, &[], &[]), 1, 0, 0, &[0]);
+    case(tables_of(1, &[], &[(0, 0)]), 1, 0, 0, &[0]);
+    case(tables_of(1, &[(0, 0)], &[(0, 0)]), 0, 1, 1, &[0]);
+    case(tables_of(4, &chain_of_4, &[]), 1, 0, 6, &[0, 0, 0, 0]);
+    case(tables_of(4, &chain_of_4, &[(0, 0)]), 2, 3, 6, &[1, 0, 0, 0]);
+    case(tables_of(4, &[(0, 1), (3, 2)], &[(0, 0), (3, 1)]), 3, 2, 2, &[2, 1, 0, 0]);
+    case(tables_of(4, &[(0, 1), (2, 3)], &[(0, 3), (2, 1)]), 0, 2, 2, &[1, 3]);
     let chain_of_5 = [(0, 1), (1, 2), (2, 3), (3, 4)];
-    case(tables_of(6, &chain_of_5, &[(0, 5)]), 2, 4, &[0, 0, 0, 0, 0, 1]);
+    case(tables_of(6, &chain_of_5, &[(0, 5)]), 2, 4, 10, &[0, 0, 0, 0, 0, 1]);
 }
 
 /// Case 6: Bell, and Pass is stalled in ID. The event load enters ID and sends
@@ -170,7 +181,7 @@ fn cases_of_the_paper() {
 #[test]
 fn case_6_of_the_paper() {
     let causes = [(0, 1), (1, 2), (2, 3)];
-    case(tables_of(4, &causes, &[(0, 0), (0, 1)]), 0, 6, &[1]);
+    case(tables_of(4, &causes, &[(0, 0), (0, 1)]), 0, 6, 6, &[1]);
 }
 
 #[test]
@@ -178,18 +189,89 @@ fn case_10_of_the_paper() {
     let causes: Vec<(usize, usize)> = (0..31).map(|i| (i, i + 1)).collect();
     let stalls: Vec<(usize, usize)> = (0..32).map(|i| (i, i)).collect();
     let networks: Vec<u8> = (0..32).map(|i| 31 - i).collect();
-    case(tables_of(32, &causes, &stalls), 32, 496, &networks);
+    case(tables_of(32, &causes, &stalls), 32, 496, 496, &networks);
 }
 
-/// The longest cycle, and the most pairs.
+/// The longest cycle, and the most pairs and joins.
 #[test]
 fn widest_answers() {
     let own: Vec<(usize, usize)> = (0..32).map(|i| (i, i)).collect();
     let ring: Vec<(usize, usize)> = (0..32).map(|i| ((i + 1) % 32, i)).collect();
     let numbers: Vec<u8> = (0..32).collect();
-    case(tables_of(32, &own, &ring), 0, 32, &numbers);
+    case(tables_of(32, &own, &ring), 0, 32, 32, &numbers);
     let all = vec![0xff; 128];
-    case(Tables { count: 32, causes: all.clone(), stalls: all }, 0, 1024, &[0]);
+    case(Tables { count: 32, causes: all.clone(), stalls: all }, 0, 1024, 1024, &[0]);
+}
+
+// ---------------------------------------------------------------------
+// Row joins
+// ---------------------------------------------------------------------
+
+/// The joins of some causes, whatever the stalls are: none, all, or each
+/// message its own.
+fn joins_are(count: usize, causes: &[(usize, usize)], joins: usize) {
+    let own: Vec<(usize, usize)> = (0..count).map(|i| (i, i)).collect();
+    let all: Vec<(usize, usize)> = (0..count * count).map(|i| (i / count, i % count)).collect();
+    for stalls in [&[][..], &own, &all] {
+        let call = call_of(tables_of(count, causes, stalls), count);
+        let right = check(&call, &|| "joins".to_string());
+        assert_eq!((right.number, right.joins as usize), (0, joins), "{:?}", causes);
+    }
+}
+
+/// Whoever counts the pairs of causes, or of causes closed, or leaves a
+/// message's own row out, or goes through the middle messages from the highest,
+/// comes to another number in one of these.
+#[test]
+fn joins_by_hand() {
+    joins_are(1, &[], 0);
+    joins_are(1, &[(0, 0)], 1);
+    // Row 0 takes in row 1, rows 0 and 1 row 2, rows 0 to 2 row 3.
+    joins_are(4, &[(0, 1), (1, 2), (2, 3)], 6);
+    // When it is the turn of row k, only row k + 1 holds k.
+    joins_are(4, &[(1, 0), (2, 1), (3, 2)], 3);
+    // Row 1 takes in row 0 and with it holds 1; both rows take in row 1.
+    joins_are(2, &[(0, 1), (1, 0)], 3);
+    // Row 2 takes in row 0 and by it holds 1; so rows 0 and 2 take in row 1.
+    joins_are(3, &[(2, 0), (0, 1)], 3);
+    // Row 2 takes in row 1; it holds 0 by that, but 0 has had its turn.
+    joins_are(3, &[(2, 1), (1, 0)], 2);
+}
+
+/// For every n: no causes, each its own, a chain, a chain backwards, a ring,
+/// every pair.
+#[test]
+fn joins_of_every_n() {
+    for n in 1..=MOST_MESSAGES {
+        let pairs = |from: &dyn Fn(usize) -> (usize, usize), many| (0..many).map(from).collect();
+        let own: Vec<(usize, usize)> = pairs(&|i| (i, i), n);
+        let chain: Vec<(usize, usize)> = pairs(&|i| (i, i + 1), n - 1);
+        let back: Vec<(usize, usize)> = pairs(&|i| (i + 1, i), n - 1);
+        let ring: Vec<(usize, usize)> = pairs(&|i| (i, (i + 1) % n), n);
+        let all: Vec<(usize, usize)> = pairs(&|i| (i / n, i % n), n * n);
+        joins_are(n, &[], 0);
+        joins_are(n, &own, n);
+        joins_are(n, &chain, n * (n - 1) / 2);
+        joins_are(n, &back, n - 1);
+        joins_are(n, &ring, n * (n + 1) / 2);
+        joins_are(n, &all, n * n);
+    }
+}
+
+/// With a refusal there are none, though the tables are full.
+#[test]
+fn no_joins_with_a_refusal() {
+    for n in 1..=MOST_MESSAGES {
+        let all: Vec<(usize, usize)> = (0..n * n).map(|i| (i / n, i % n)).collect();
+        let call = call_of(tables_of(n, &all, &all), n);
+        refused(&Call { room: n - 1, ..call.clone() }, ROOM, "no joins with 16");
+        refused(&Call { n: n as u64 + 1, ..call.clone() }, COUNT, "no joins with 17");
+        if n < MOST_MESSAGES {
+            let mut stray = call.clone();
+            random::set_pair(&mut stray.stalls, Message(n - 1), Message(n));
+            refused(&stray, STRAY, "no joins with 18");
+        }
+    }
 }
 
 // ---------------------------------------------------------------------

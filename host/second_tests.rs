@@ -7,6 +7,8 @@ mod limits;
 mod random;
 mod second;
 
+#[path = "second_tests/joins.rs"]
+mod joins;
 #[path = "second_tests/refusals.rs"]
 mod refusals;
 
@@ -221,8 +223,8 @@ fn fast(n: u64, causes: &[u8], stalls: &[u8], room: usize) -> Answer {
     let length = numbers.length as usize;
     assert!(out[length..].iter().all(|byte| *byte == 0xA5), "bytes after the length stay");
     out.truncate(length);
-    let Numbers { number, length, networks, needed, pairs } = numbers;
-    Answer { number, length, networks, needed, pairs, bytes: out }
+    let Numbers { number, length, networks, needed, pairs, joins } = numbers;
+    Answer { number, length, networks, needed, pairs, joins, bytes: out }
 }
 
 #[test]
@@ -370,6 +372,7 @@ fn relations_refusals() {
     let numbers = |n: u64, causes: &[u8], stalls: &[u8], room: usize| {
         assert_eq!(relations(n, causes, stalls, room), fast(n, causes, stalls, room));
         let answer = relations(n, causes, stalls, room);
+        assert!(answer.number == 0 || answer.joins == 0, "no joins with a refusal");
         (answer.number, answer.needed)
     };
     assert_eq!(numbers(0, &[], &[], 9), (COUNT, 0));
@@ -391,10 +394,12 @@ fn relations_refusals() {
 fn packed_numbers() {
     let full = vec![0xFF; 128];
     let answer = relations(32, &full, &full, 32);
-    assert_eq!(answer.packed(), (1024 << 32) + (1 << 8));
+    assert_eq!(answer.packed(), (1024 << 48) + (1024 << 32) + (1 << 8));
     let answer = relations(3, &[0; 12], &[0; 12], 3);
     assert_eq!(answer.packed(), (1 << 16) + (3 << 8));
     assert_eq!(relations(3, &[0; 12], &[0; 12], 2).packed(), (3 << 24) + 16);
+    // Joins there would be, but for a refusal.
+    assert_eq!(relations(32, &full, &full, 31).packed(), (32 << 24) + 16);
     let length = plan(&bell()).unwrap().len();
     assert_eq!(plan_with_room(&bell(), length).packed(), (length as u64) << 32);
     let short = plan_with_room(&bell(), length - 1);

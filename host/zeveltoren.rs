@@ -66,17 +66,22 @@ pub struct Answer {
     pub networks: usize,
     /// The number of waits pairs.
     pub pairs: usize,
+    /// The number of row joins in closing the causes: for a scheduler that
+    /// wants to know how much work that was. At most n times n.
+    pub joins: usize,
 }
 
 impl Answer {
     /// Bits 0 to 7 are the refusal number, 8 to 15 the length, 16 to 23 the
-    /// least count, 24 to 31 the length needed, 32 to 47 the waits pairs.
+    /// least count, 24 to 31 the length needed, 32 to 47 the waits pairs, 48 to
+    /// 63 the joins.
     pub fn of(packed: u64) -> Answer {
         Answer {
             refusal: Refusal::of(packed),
             length: field(packed, 8, 8) as usize,
             networks: field(packed, 16, 8) as usize,
             pairs: field(packed, 32, 16) as usize,
+            joins: field(packed, 48, 16) as usize,
         }
     }
 
@@ -120,6 +125,27 @@ pub fn relations_packed(n: u64, causes: &[u8], stalls: &[u8], out: &mut [u8]) ->
             out.len(),
         )
     }
+}
+
+/// The most bytes of stack that a call takes, its return address counted.
+pub const MOST_STACK: usize = 1_024;
+
+/// Where the call stands, for who measures its stack.
+pub fn relations_address() -> usize {
+    vn_relations as *const () as usize
+}
+
+/// The words of the call, as they go over to the library.
+pub fn relations_words(n: u64, causes: &[u8], stalls: &[u8], out: &mut [u8]) -> [usize; 7] {
+    [
+        n as usize,
+        causes.as_ptr() as usize,
+        causes.len(),
+        stalls.as_ptr() as usize,
+        stalls.len(),
+        out.as_mut_ptr() as usize,
+        out.len(),
+    ]
 }
 
 /// Sets the pair (from, to) in a table of rows.

@@ -32,7 +32,7 @@ pub fn relations_fast(n: u64, causes: &[u8], stalls: &[u8], out: &mut [u8]) -> N
     if out.len() < count {
         return Numbers::refused(ROOM, n);
     }
-    close_rows(&mut reached, count);
+    let joins = close_rows(&mut reached, count);
     let waits = waits_rows(&reached, &stalls, count);
     let pairs: u32 = waits.iter().map(|row| row.count_ones()).sum();
     let (length, networks) = match write_networks(&waits, all, count, out) {
@@ -45,6 +45,7 @@ pub fn relations_fast(n: u64, causes: &[u8], stalls: &[u8], out: &mut [u8]) -> N
         networks: networks as u64,
         needed: 0,
         pairs: u64::from(pairs),
+        joins: u64::from(joins),
     }
 }
 
@@ -60,16 +61,19 @@ pub(super) fn union_of(rows: &Rows) -> Row {
     rows.iter().fold(0, |union, row| union | row)
 }
 
-/// One or more steps, in place (Warshall).
-pub(super) fn close_rows(rows: &mut Rows, count: usize) {
+/// One or more steps, in place (Warshall). Gives the number of row joins.
+pub(super) fn close_rows(rows: &mut Rows, count: usize) -> u32 {
+    let mut joins = 0;
     for middle in 0..count {
         let through = rows[middle];
         for row in rows[..count].iter_mut() {
             if *row >> middle & 1 == 1 {
                 *row |= through;
+                joins += 1;
             }
         }
     }
+    joins
 }
 
 /// Rule 4: whoever a stalls waits for all that a reaches.

@@ -10,22 +10,25 @@ pub struct Numbers {
     pub networks: u64,
     pub needed: u64,
     pub pairs: u64,
+    pub joins: u64,
 }
 
 impl Numbers {
     pub(super) fn refused(number: u64, needed: u64) -> Numbers {
-        Numbers { number, length: 0, networks: 0, needed, pairs: 0 }
+        Numbers { number, length: 0, networks: 0, needed, pairs: 0, joins: 0 }
     }
 
     /// "bits 0 to 7 the refusal number (0 on success), 8 to 15 the length, 16
     /// to 23 the least count, 24 to 31 the length needed, 32 to 47 the waits
-    /// pairs, the rest 0."
+    /// pairs, the rest 0." By request C-23 the rest is the number of row joins:
+    /// "bits 48 to 63 for the C host; 0 with a refusal".
     pub fn packed(&self) -> u64 {
         self.number
             + (self.length << 8)
             + (self.networks << 16)
             + (self.needed << 24)
             + (self.pairs << 32)
+            + (self.joins << 48)
     }
 }
 
@@ -37,18 +40,19 @@ pub struct Answer {
     pub networks: u64,
     pub needed: u64,
     pub pairs: u64,
+    pub joins: u64,
     pub bytes: Vec<u8>,
 }
 
 impl Answer {
     fn new(numbers: Numbers, bytes: Vec<u8>) -> Answer {
-        let Numbers { number, length, networks, needed, pairs } = numbers;
-        Answer { number, length, networks, needed, pairs, bytes }
+        let Numbers { number, length, networks, needed, pairs, joins } = numbers;
+        Answer { number, length, networks, needed, pairs, joins, bytes }
     }
 
     pub fn numbers(&self) -> Numbers {
-        let Answer { number, length, networks, needed, pairs, .. } = *self;
-        Numbers { number, length, networks, needed, pairs }
+        let Answer { number, length, networks, needed, pairs, joins, .. } = *self;
+        Numbers { number, length, networks, needed, pairs, joins }
     }
 
     pub fn packed(&self) -> u64 {
@@ -72,7 +76,8 @@ pub fn relations(n: u64, causes: &[u8], stalls: &[u8], room: usize) -> Answer {
     if room < count {
         return Answer::new(Numbers::refused(ROOM, n), Vec::new());
     }
-    relations_answer(&waits_of(&causes, &stalls))
+    let (_, joins) = causes.joined();
+    relations_answer(&waits_of(&causes, &stalls), joins)
 }
 
 /// "Row i is 4 bytes, lowest byte first; bit j says that i causes (stalls)
@@ -94,8 +99,9 @@ pub fn read_table(count: usize, table: &[u8]) -> Option<Relation> {
 }
 
 /// Class 3: the least count, length n, n network bytes. Class 2: count 0, the
-/// cycle's length and its message numbers. Both: the number of waits pairs.
-pub(super) fn relations_answer(waits: &Relation) -> Answer {
+/// cycle's length and its message numbers. Both: the number of waits pairs,
+/// and of row joins in closing causes.
+pub(super) fn relations_answer(waits: &Relation, joins: usize) -> Answer {
     let (networks, bytes): (usize, Vec<u8>) = match plan_of(waits) {
         Plan::Class3 { networks, mapping } => {
             (networks, mapping.iter().map(|network| network.0 as u8).collect())
@@ -108,6 +114,7 @@ pub(super) fn relations_answer(waits: &Relation) -> Answer {
         networks: networks as u64,
         needed: 0,
         pairs: waits.pairs() as u64,
+        joins: joins as u64,
     };
     Answer::new(numbers, bytes)
 }

@@ -96,6 +96,33 @@ impl Relation {
         reached
     }
 
+    /// Request C-23: "going through middle messages in order, a join is counted
+    /// each time a row, as it stands at that moment, holds the middle one." In a
+    /// join the row takes in the row of the middle message. Gives the rows as
+    /// they stand at the end, and the number of joins.
+    pub fn joined(&self) -> (Relation, usize) {
+        let mut rows = self.clone();
+        let mut joins = 0;
+        for middle in self.messages() {
+            for from in self.messages() {
+                if rows.has(from, middle) {
+                    joins += 1;
+                    rows.take_in(from, middle);
+                }
+            }
+        }
+        (rows, joins)
+    }
+
+    /// The row of `from` gets all that the row of `middle` holds.
+    fn take_in(&mut self, from: Message, middle: Message) {
+        for to in self.messages() {
+            if self.has(middle, to) {
+                self.add(from, to);
+            }
+        }
+    }
+
     /// Some message comes back to itself in one or more steps.
     pub fn has_cycle(&self) -> bool {
         let reached = self.one_or_more_steps();
