@@ -16,7 +16,7 @@ use Rattle.rules.specs.Promises.{GoodPlan}
 use Rattle.rules.proofs.Promises.{every-plan, shown-is-real, one-class, determined}
 use Rattle.rows.specs.Rows.{ofRows}
 use Rattle.rows.proofs.Given.{rows-accepted}
-use Rattle.waits.proofs.Waiting.{counts-le}
+use Rattle.rows.proofs.Counting.{counts-le}
 use Rattle.papers.specs.Checks.{firstOf}
 use Rattle.papers.proofs.Checks.{only-given}
 use Rattle.relations.specs.declared.answer.RelationsAnswer.{RelationsAnswer}

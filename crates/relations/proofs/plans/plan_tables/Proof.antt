@@ -60,7 +60,7 @@ slice-aggregate-plan-rows c = search needs
 plan-rows-requires : tie.Need-plan-rows-requires
 plan-rows-requires c κs =
     let s = c .before .before .before .before .before .before .before .before .before .before .before .before .before .before .before .before .before in
-    let w = c .before .before .before .before .waits .ensures .1 in
+    let w = c .before .before .before .before .waits .ensures .1 .0 in
     let k = given s in
     (k .count .some, k .count .few, omega (arith, k .count .few, w .kept .long), k .fits, waits-tidy (s .args .n) (c .before .before .before .before .before .before .before .before .before .before .before .before .load .last .1 .1 .0) (c .before .before .before .before .before .before .before .before .before .load2 .last .1 .1 .0) _ (c .before .before .before .before .waits .last .1 .1 .1 .0) w)
 
@@ -74,7 +74,7 @@ returns c =
     let p = c .before .before .plan-rows in
     let w = c .before .before .before .before .before .before .before .waits in
     planned (s .args .n) (rowsOfBytes 4 (s .args .n) (s .args .causes .now)) (rowsOfBytes 4 (s .args .n) (s .args .stalls .now)) (w .last .1 .1 .1 .0) (k .count .some)
-    (same-waits (s .args .n) (c .before .before .before .before .before .before .before .before .before .before .before .before .before .before .before .load .last .1 .1 .0) (rowsOfBytes 4 (s .args .n) (s .args .causes .now)) (c .before .before .before .before .before .before .before .before .before .before .before .before .load2 .last .1 .1 .0) (rowsOfBytes 4 (s .args .n) (s .args .stalls .now)) _ (w .last .1 .1 .1 .0) (c .before .before .before .before .before .before .before .before .before .before .before .before .before .before .before .load .ensures .rows) (c .before .before .before .before .before .before .before .before .before .before .before .before .load2 .ensures .rows) (w .ensures .1))
+    (same-waits (s .args .n) (c .before .before .before .before .before .before .before .before .before .before .before .before .before .before .before .load .last .1 .1 .0) (rowsOfBytes 4 (s .args .n) (s .args .causes .now)) (c .before .before .before .before .before .before .before .before .before .before .before .before .load2 .last .1 .1 .0) (rowsOfBytes 4 (s .args .n) (s .args .stalls .now)) _ (w .last .1 .1 .1 .0) (c .before .before .before .before .before .before .before .before .before .before .before .before .before .before .before .load .ensures .rows) (c .before .before .before .before .before .before .before .before .before .before .before .before .load2 .ensures .rows) (w .ensures .1 .0))
     (s .args .out .now) (p .last .1 .1 .0) (p .result) (p .ensures)
 
 pub plan-tables-spec : {M : Type 1} → statement M
