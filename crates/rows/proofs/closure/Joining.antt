@@ -139,8 +139,12 @@ module _ (n : ℕ) (given : List ℕ) (long : n ≤ length given) where
 pub closing-closes : ClosingCloses
 closing-closes = closes
 
+-- n is at most w: each middle message has at most w joins
+pub joins-le : (w n : ℕ) (given : List ℕ) → n ≤ w → n ≤ length given → joins n given ≤ n * w
+joins-le w n given h long = pairs-le (Passes n given) w n n (joins n given) h (joins-counted n given long)
+
 pub few-joins : FewJoins
-few-joins n given long = pairs-le (Passes n given) n n n (joins n given) (omega arith) (joins-counted n given long)
+few-joins n given long = joins-le n n given (omega arith) long
 
 -- ---- tables with the same first n rows
 
