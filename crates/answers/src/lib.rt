@@ -9,7 +9,7 @@ use papers::Refusal;
 pub const PRINTED: usize = 2048;
 
 // What a program prints: so many bytes at the front.
-pub struct Printed {
+pub struct PrintedBytes {
     pub bytes: [u8; PRINTED],
     pub length: usize,
 }

@@ -29,7 +29,7 @@ use Rattle.lines.proofs.Sections.{a-cell}
 use Rattle.lines.proofs.Both.{and-left, and-right}
 use Rattle.cells.specs.declared.CellLine.{CellLine}
 use Rattle.cells.specs.Told.{CellTold}
-use Rattle.cells.specs.shapes.Shape.{Stalls, Goes}
+use Rattle.cells.specs.shapes.Shape.{StallLine, GoLine}
 use Rattle.cells.proofs.shapes.Shapes.{shaped-way}
 use Rattle.cells.proofs.Judging.{in-order}
 use Rattle.tables.proofs.Given.{given, given-declared}
@@ -103,10 +103,10 @@ sent-known : (t : Tables) (f : Line) → shaped cell f ≡ true
 unfolding allMessages
 sent-known t f h k =
     ⊎-elim
-    (λ (s : Stalls f (cellController f)).
+    (λ (s : StallLine f (cellController f)).
     let none : sentFields f ≡ [] = drop-of-length-le f {i = 6} (let q : length f ≤ 6 = omega (arith, s .long) in q) in
     (omega (arith, ap length none), ap (allMessages t) none))
-    (λ (s : Goes f (cellController f)). (
+    (λ (s : GoLine f (cellController f)). (
       omega (arith, length-drop 6 f, s .few),
       and-right (isState t (cellController f) (field f 5)) (allMessages t (sentFields f))
           (ap (λ (b : Bool). b || (isState t (cellController f) (field f 5) && allMessages t (sentFields f))) (sym (s .word)) ∙ k),

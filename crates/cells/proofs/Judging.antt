@@ -28,7 +28,6 @@ use Rattle.cells.specs.declared.CellLine.{CellLine}
 use Rattle.cells.specs.declared.shapes.Shape.the-variants.{Wrong}
 use Rattle.cells.specs.shapes.Shape.{shapeOf}
 use Rattle.cells.specs.readings.Known.{CellRead}
-use Rattle.tables.specs.Given.{Declared}
 use Rattle.cells.specs.Told.{CellTold, refusedLine, ReadAs, CellJudged}
 use Rattle.cells.proofs.shapes.Shapes.{wrong-shape}
 

@@ -1,4 +1,4 @@
-// What reading a cell's line gives.
+// What reading a cell's line gives: the cell that it stands for, where all that it names is known.
 ghost use mathlib.Core.Path.{_≡_};
 ghost use Rattle.cells.specs.readings.Known.{noReading, CellRead};
 use tables::Cell;
@@ -8,7 +8,7 @@ ghost use Rattle.text.specs.Parts.{split};
 ghost use Rattle.tables.specs.Tables.{noState};
 ghost use Rattle.lines.specs.Checks.{isStable};
 ghost use Rattle.lines.specs.Told.{FieldsAre};
-ghost use Rattle.cells.specs.shapes.Shape.{Stalls, Goes};
+ghost use Rattle.cells.specs.shapes.Shape.{StallLine, GoLine};
 use rules::Message;
 use rules::State;
 use tables::Controller;
@@ -38,7 +38,7 @@ fn unread() -> CellReading
     }
 }
 
-// ---- The cell that a line with `stall` stands for.
+// ---- a line with `stall`
 
 // Whether a declared state is a stable one.
 fn in_stable(states: [StateRow; tables::STATES], count: usize, state: State) -> bool
@@ -66,7 +66,7 @@ pub(crate) fn stall_of(
     states: [StateRow; tables::STATES],
     state_count: usize,
 ) -> CellReading
-    requires { ⌜ FieldsAre (now line) f × Stalls (split 9 (now line)) whose × («message_count» ≤ 32) × («event_count» ≤ 8) × («state_count» ≤ 64) ⌝ }
+    requires { ⌜ FieldsAre (now line) f × StallLine (split 9 (now line)) whose × («message_count» ≤ 32) × («event_count» ≤ 8) × («state_count» ≤ 64) ⌝ }
     ensures { λ r. ⌜ CellRead (split 9 (now (line .entry))) messages «message_count» events «event_count» states «state_count» r ⌝ }
 {
     let at = crate::places::place_of(
@@ -99,7 +99,7 @@ pub(crate) fn stall_of(
     }
 }
 
-// ---- The cell that a line with `go` stands for.
+// ---- a line with `go`
 
 // The cell of a line with `go`.
 pub(crate) fn go_of(
@@ -113,7 +113,7 @@ pub(crate) fn go_of(
     states: [StateRow; tables::STATES],
     state_count: usize,
 ) -> CellReading
-    requires { ⌜ FieldsAre (now line) f × Goes (split 9 (now line)) whose × («message_count» ≤ 32) × («event_count» ≤ 8) × («state_count» ≤ 64) ⌝ }
+    requires { ⌜ FieldsAre (now line) f × GoLine (split 9 (now line)) whose × («message_count» ≤ 32) × («event_count» ≤ 8) × («state_count» ≤ 64) ⌝ }
     ensures { λ r. ⌜ CellRead (split 9 (now (line .entry))) messages «message_count» events «event_count» states «state_count» r ⌝ }
 {
     let at = crate::places::place_of(

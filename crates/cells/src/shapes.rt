@@ -10,7 +10,7 @@ use text::Fields;
 // A stall has so many fields, and a `go` one to nine more: its next state, and the messages sent.
 const STALL_FIELDS: usize = 5;
 
-const MOST_FIELDS: usize = 14;
+const MOST_FIELDS: usize = STALL_FIELDS + 1 + tables::SENT;
 
 // What a cell's line is made of: the controller that it names, and whether it stalls or goes on.
 pub enum Shape {

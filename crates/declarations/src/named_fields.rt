@@ -28,7 +28,7 @@ pub(crate) fn name_at(line: &[u8], f: Fields, i: usize) -> Name
     text::names::name_of(lines::field_at(line, f, i))
 }
 
-// ---- Whether a name is declared as a message's.
+// ---- whether it is declared already
 
 // Whether field i is the name of a message that was read.
 pub(crate) fn message_declared(

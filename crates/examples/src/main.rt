@@ -5,7 +5,7 @@
 // The files data/ and stdout are made from the folder examples/ by tools/examples.
 
 // One byte more than the largest text: so much tells that a text is too big.
-const MOST: usize = 49153;
+const MOST: usize = papers::MOST_BYTES + 1;
 
 // The longest list.
 const LIST: usize = 8192;

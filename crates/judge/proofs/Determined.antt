@@ -14,7 +14,9 @@ use Rattle.tables.specs.declared.Tables.{Tables}
 use Rattle.tables.specs.Cells.{relationsOfTables}
 use Rattle.protocol.specs.Reading.{readProtocol}
 use Rattle.answers.specs.declared.Answer.{Answer}
-use Rattle.answers.specs.declared.Printed.{Printed}
+use lib.ListN.{replicate}
+use Rattle.determined.specs.Determined.{Determines}
+use Rattle.answers.specs.declared.PrintedBytes.{PrintedBytes}
 use Rattle.answers.specs.Answers.{Listed}
 use Rattle.judge_listing.specs.JudgeText.{ShownStep, unfitText}
 use Rattle.verdicts.specs.Verdicts.{mappingOf}
@@ -23,7 +25,7 @@ use Rattle.judge.specs.Call.{Shows, ShowsAll, UnfitListing, JudgeListing
 use Rattle.judge.specs.Determined.{JudgeDetermined}
 use Rattle.text.specs.Written.{Wrote}
 use Rattle.text.proofs.Determined.{wrote-determined}
-use Rattle.judge.specs.program.Printed.{MappingPrinted}
+use Rattle.judge.specs.program.Printed.{MappingPrinted, JudgePrinted}
 use Rattle.judge.specs.program.Determined.{JudgePrintedDetermined}
 
 -- ---- the steps
@@ -90,7 +92,7 @@ judge-determined x y old new₁ new₂ r s c d = go (eqb (readProtocol x .refusa
         let n = eqb-false (readProtocol x .refusal .number) 0 e in
         refusal-determined (readProtocol x .refusal) 0 old new₁ new₂ r s (c .protocol-refused n) (d .protocol-refused n)
 
--- ---- What the judging program prints is determined: the count and the lent bytes.
+-- ---- what the program prints
 
 mapping-printed-one : (t : Tables) (y l m : List ℕ) → MappingPrinted t y l → MappingPrinted t y m → l ≡ m
 mapping-printed-one t y l m v w = go (eqb (mappedFor t y .refusal .number) 0) refl
@@ -110,8 +112,8 @@ printed-determined x y old new₁ new₂ j k v w =
     same false e = let n = eqb-false (readProtocol x .refusal .number) 0 e in w .protocol-refused n ∙ sym (v .protocol-refused n)
 
 -- by value
-pub print-determined : (protocol mapping : List ℕ) → Determines (λ (r : Printed). JudgePrinted protocol mapping (replicate 2048 0) (r .bytes) (r .length))
+pub print-determined : (protocol mapping : List ℕ) → Determines (λ (r : PrintedBytes). JudgePrinted protocol mapping (replicate 2048 0) (r .bytes) (r .length))
 print-determined x y r s v w = let q = printed-determined x y (replicate 2048 0) (r .bytes) (s .bytes) (r .length) (s .length) v w in same (q .0) (q .1)
   where
-    same : {m n : ℕ} {a b : List ℕ} → m ≡ n → a ≡ b → _≡_ {A = Printed} (record { bytes = a; length = m }) (record { bytes = b; length = n })
+    same : {m n : ℕ} {a b : List ℕ} → m ≡ n → a ≡ b → _≡_ {A = PrintedBytes} (record { bytes = a; length = m }) (record { bytes = b; length = n })
     same e f = cc

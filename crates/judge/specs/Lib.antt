@@ -1,4 +1,4 @@
-pub mod JudgeCall
+pub mod Call
 pub mod Determined
 pub mod Longest
 pub mod program

@@ -1,10 +1,8 @@
 // The judging call: a protocol text and a mapping text in, a listing out.
 pub mod program;
 
-ghost use mathlib.Core.Path.{_≡_};
 ghost use Prim.Native.Nat.{_<_};
 ghost use Rattle.tables.specs.Cells.{TablesOk};
-ghost use Rattle.protocol.specs.Reading.{readProtocol};
 ghost use Rattle.verdicts.specs.Verdicts.{mappingOf};
 ghost use Rattle.judge.specs.Call.{JudgementWritten, AfterProtocol, JudgeCall};
 use answers::Answer;

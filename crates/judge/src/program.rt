@@ -2,7 +2,7 @@
 ghost use Prim.Native.Nat.{_≤_};
 ghost use lib.ListN.{length, replicate};
 ghost use Rattle.judge.specs.program.Printed.{JudgePrinted};
-use answers::Printed;
+use answers::PrintedBytes;
 
 // What the judging program prints, at the front of out. There is room for the longest answer within the limits.
 fn put_judgement(protocol: &[u8], mapping: &[u8], out: &mut [u8]) -> usize
@@ -17,12 +17,12 @@ fn put_judgement(protocol: &[u8], mapping: &[u8], out: &mut [u8]) -> usize
 }
 
 // What the judging program prints. It asks nothing: the room is its own.
-pub fn print_judgement(protocol: &[u8], mapping: &[u8]) -> Printed
+pub fn print_judgement(protocol: &[u8], mapping: &[u8]) -> PrintedBytes
     ensures { λ r. ⌜ JudgePrinted (now (protocol .entry)) (now (mapping .entry)) (replicate 2048 0) (r .bytes) (r .length) ⌝ }
 {
     let mut bytes = [0u8; answers::PRINTED];
     let n = put_judgement(protocol, mapping, &mut bytes);
-    Printed {
+    PrintedBytes {
         bytes: bytes,
         length: n,
     }

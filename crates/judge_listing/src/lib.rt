@@ -20,12 +20,12 @@ use tables::MessageRow;
 use text::Name;
 
 // How many bytes the header and the verdict's line have, but for the verdict: the header and two ends of lines.
-pub(crate) const HEAD: usize = text::words::JUDGE_HEADER.len()
+pub(crate) const VERDICT_HEAD: usize = text::words::JUDGE_HEADER.len()
     + text::words::NEWLINE.len()
     + text::words::NEWLINE.len();
 
 // How many bytes of the listing of an unfit mapping stand before its steps: the head, and `unfit` in it.
-const BEFORE_STEPS: usize = HEAD + text::words::UNFIT.len();
+const BEFORE_STEPS: usize = VERDICT_HEAD + text::words::UNFIT.len();
 
 // The header and the verdict's line, at the front of out.
 pub(crate) fn put_verdict(out: &mut [u8], verdict: &[u8]) -> usize

@@ -14,7 +14,7 @@ pub struct NamedStep {
 }
 
 // How many bytes the line has beside its names and its word: `step`, a tab before each of the three, and the end of the line.
-const FIXED: usize = text::words::STEP.len()
+const STEP_FIXED: usize = text::words::STEP.len()
     + text::words::TAB.len()
     + text::words::TAB.len()
     + text::words::TAB.len()
@@ -36,7 +36,10 @@ pub(crate) fn step_length(step: NamedStep) -> usize
 {
     let from = step.from;
     let to = step.to;
-    FIXED + text::names::name_length(from) + word_length(step.waits) + text::names::name_length(to)
+    STEP_FIXED
+        + text::names::name_length(from)
+        + word_length(step.waits)
+        + text::names::name_length(to)
 }
 
 // The step's word, at a place of out.

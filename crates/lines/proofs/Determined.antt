@@ -46,6 +46,20 @@ module _ (line : List ℕ) where
   pub state-shape-determined : Determines (λ (r : StateWords). r ≡ stateShape (split 9 line))
   state-shape-determined = equal _
 
+abbrev nextOf : ℕ → Fields → Bool → NextLine
+nextOf e f b = record { end = e; fields = f; is = b }
+
+pub next-line-determined : (text : List ℕ) (at : ℕ) (word : List ℕ) → Determines (Next text at word)
+next-line-determined text at word r s p q =
+    let e : r .end ≡ s .end = p .ends ∙ sym (q .ends) in
+    let f : r .fields ≡ s .fields =
+    p .are ∙ sym (subst (λ (k : ℕ). s .fields ≡ fieldsOf (part text at k) 0 (length (part text at k))) (sym e) (q .are)) in
+    let b : r .is ≡ s .is = p .said ∙ sym (subst (λ (k : ℕ). s .is ≡ says (split 9 (part text at k)) 0 word) (sym e) (q .said)) in
+    same e f b
+  where
+    same : {a b : ℕ} {f g : Fields} {x y : Bool} → a ≡ b → f ≡ g → x ≡ y → nextOf a f x ≡ nextOf b g y
+    same p q r = cc
+
 -- a line that is no cell, behind some tables with a cell
 pub misplaced-determined : (k : ℕ) (line : List ℕ) → says (split 9 line) 0 cellWord ≡ false → Determines (Misplaced k line)
 misplaced-determined k line w r s p q = go (sectionOf (split 9 line)) refl

@@ -2,21 +2,16 @@
 use Prim.Native.Nat.{ℕ, _≤_, _<_}
 use mathlib.Core.Path.{_≡_, sym, ap, subst, _∙_}
 use mathlib.Core.List.{List, []}
-use native.Mathlib.Nat.{sub-zero, le-refl}
+use native.Mathlib.Nat.{le-refl}
 use native.Mathlib.Omega.{arith}
-use lib.ListN.{length, getD, take}
-use lib.Seq.{take-length}
+use lib.ListN.{length, getD}
 use Rattle.papers.proofs.WholeLine.{whole-fields}
 use Rattle.text.specs.declared.Fields.{Fields}
-use Rattle.text.specs.Parts.{part, split}
+use Rattle.text.specs.Parts.{split}
 use Rattle.text.specs.Fields.{fieldsOf, lineFields}
 use Rattle.text.proofs.FieldLaws.{FieldAt, field-at, count-few, count-full, count-le, count-some}
 use Rattle.text.specs.Line.{field}
 use Rattle.lines.specs.Told.{FieldsAre}
-
--- the whole line as a part of itself
-pub whole : (line : List ℕ) → part line 0 (length line) ≡ line
-whole line = ap (λ (n : ℕ). take n line) (sub-zero (length line)) ∙ take-length line
 
 module _ (line : List ℕ) (f : Fields) (are : FieldsAre line f) where
   pub few : f .count ≤ 15

@@ -1,8 +1,8 @@
 -- One line of a protocol text (01-scope.md, "The protocol text"): what its fields say. A line is the list of its fields.
 use Prim.Native.Nat.{ℕ, _-_}
-use mathlib.Core.Bool.{Bool, true, false, _||_, cond}
-use mathlib.Core.List.{List, [], _++_, map}
-use lib.ListN.{length, getD, drop, replicate}
+use mathlib.Core.Bool.{Bool, _||_, cond}
+use mathlib.Core.List.{List, _++_, map}
+use lib.ListN.{length, drop, replicate}
 use Rattle.rules.specs.declared.Message.{Message}
 use Rattle.text.specs.Parts.{sameText}
 use Rattle.text.specs.Line.{Line, field, says}

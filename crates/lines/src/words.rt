@@ -1,4 +1,4 @@
-// The type of a message, as a field of a line says it.
+// The fixed words of a line, as a field says them: the type of a message; the controller of a state, and whether it is stable or transient.
 ghost use mathlib.Core.Path.{_≡_};
 ghost use Prim.Native.Nat.{_<_};
 ghost use Rattle.text.specs.Parts.{split};
@@ -35,7 +35,7 @@ pub(crate) fn kind_at(line: &[u8], f: Fields, i: usize) -> FoundKind
     FoundKind::Nothing
 }
 
-// ---- The fixed words of a state: its controller, and whether it is stable or transient, as a field of a line says them.
+// ---- a state
 
 pub enum FoundController {
     Is(Controller),

@@ -19,7 +19,7 @@ use Rattle.papers.proofs.OpeningLaws.{opened}
 use Rattle.papers.proofs.Walk.{NextLine, walk-next}
 use Rattle.tables.specs.declared.MessageRow.{MessageRow}
 use Rattle.mapping.specs.declared.Mapped.{Mapped}
-use Rattle.text.specs.Line.{Line, field}
+use Rattle.text.specs.Line.{field}
 use Rattle.mapping.specs.lines.Line.{mapShaped, mapRefusal}
 use Rattle.mapping.specs.networks.Networks.{networkOf, networkNo}
 use Rattle.mapping.specs.Reading.{mapsRefused, mapsUnless, readMaps, readMapping}

@@ -61,12 +61,6 @@ given-first [] i h = absurd (omega (arith, h .below))
 given-first (c ∷ cs) zero h = first-given c cs (h .given)
 given-first (c ∷ cs) (suc i) h = first-passed c cs (h .before 0 (omega arith)) ∙ given-first cs i (first-fewer c cs i h)
 
--- where none is given nothing is refused
-pub given-none : (cs : List Check) → NoneGiven cs → firstOf cs ≡ none
-unfolding firstOf
-given-none [] h = refl
-given-none (c ∷ cs) h = first-passed c cs (h .passed 0 (omega arith)) ∙ given-none cs (record { passed = λ j k. h .passed (suc j) (omega arith) })
-
 -- a check that has a number was not given where nothing is refused
 pub passed-by : (c : Check) (cs : List Check) → (c .number ≡ 0 → ⊥) → firstOf (c ∷ cs) .number ≡ 0 → (c .given ≡ false) × (firstOf cs .number ≡ 0)
 passed-by c cs h e = go (c .given) refl

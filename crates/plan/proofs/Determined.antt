@@ -17,6 +17,8 @@ use Rattle.tables.specs.declared.Tables.{Tables}
 use Rattle.tables.specs.Tables.{messagesOf}
 use Rattle.tables.specs.Cells.{relationsOfTables}
 use Rattle.protocol.specs.Reading.{readProtocol}
+use Rattle.answers.specs.declared.PrintedBytes.{PrintedBytes}
+use Rattle.plan.specs.program.Printed.{PlanPrinted}
 use Rattle.answers.specs.Answers.{Listed}
 use Rattle.answers.proofs.Determined.{refusal-determined, listed-determined}
 use Rattle.plan_listing.specs.PlanText.{classThree, classTwo}
@@ -59,7 +61,7 @@ plan-determined text old new₁ new₂ r s c d = go (eqb (readProtocol text .ref
         let n = eqb-false (readProtocol text .refusal .number) 0 e in
         refusal-determined (readProtocol text .refusal) 0 old new₁ new₂ r s (c .refused n) (d .refused n)
 
--- ---- What the planning program prints is determined: the count and the lent bytes.
+-- ---- what the program prints
 
 pub printed-determined : PlanPrintedDetermined
 printed-determined text old new₁ new₂ j k v w =
@@ -72,8 +74,8 @@ printed-determined text old new₁ new₂ j k v w =
     same false e = let n = eqb-false (readProtocol text .refusal .number) 0 e in w .refused n ∙ sym (v .refused n)
 
 -- by value
-pub print-determined : (text : List ℕ) → Determines (λ (r : Printed). PlanPrinted text (replicate 2048 0) (r .bytes) (r .length))
+pub print-determined : (text : List ℕ) → Determines (λ (r : PrintedBytes). PlanPrinted text (replicate 2048 0) (r .bytes) (r .length))
 print-determined text r s v w = let q = printed-determined text (replicate 2048 0) (r .bytes) (s .bytes) (r .length) (s .length) v w in same (q .0) (q .1)
   where
-    same : {m n : ℕ} {a b : List ℕ} → m ≡ n → a ≡ b → _≡_ {A = Printed} (record { bytes = a; length = m }) (record { bytes = b; length = n })
+    same : {m n : ℕ} {a b : List ℕ} → m ≡ n → a ≡ b → _≡_ {A = PrintedBytes} (record { bytes = a; length = m }) (record { bytes = b; length = n })
     same e f = cc

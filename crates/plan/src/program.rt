@@ -2,7 +2,7 @@
 ghost use Prim.Native.Nat.{_≤_};
 ghost use lib.ListN.{length, replicate};
 ghost use Rattle.plan.specs.program.Printed.{PlanPrinted};
-use answers::Printed;
+use answers::PrintedBytes;
 
 // What the planning program prints, at the front of out. There is room for the longest answer within the limits.
 fn put_plan(text: &[u8], out: &mut [u8]) -> usize
@@ -17,12 +17,12 @@ fn put_plan(text: &[u8], out: &mut [u8]) -> usize
 }
 
 // What the planning program prints. It asks nothing: the room is its own.
-pub fn print_plan(text: &[u8]) -> Printed
+pub fn print_plan(text: &[u8]) -> PrintedBytes
     ensures { λ r. ⌜ PlanPrinted (now (text .entry)) (replicate 2048 0) (r .bytes) (r .length) ⌝ }
 {
     let mut bytes = [0u8; answers::PRINTED];
     let n = put_plan(text, &mut bytes);
-    Printed {
+    PrintedBytes {
         bytes: bytes,
         length: n,
     }

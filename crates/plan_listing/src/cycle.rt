@@ -14,7 +14,9 @@ use tables::MessageRow;
 use text::Name;
 
 // How many bytes the listing has beside the names: the head, `cycle` and the end of the line.
-const FIXED: usize = crate::HEAD + text::words::CYCLE.len() + text::words::NEWLINE.len();
+const CYCLE_FIXED: usize = crate::CLASS_HEAD
+    + text::words::CYCLE.len()
+    + text::words::NEWLINE.len();
 
 // How many bytes a name has, with the tab before it: at most 25.
 fn tabbed_length(name: Name) -> usize
@@ -102,7 +104,7 @@ pub fn cycle_listing(
     requires { ⌜ (n ≤ 32) × MessagesBelow n (firstMessages n cycle) ⌝ }
     ensures { λ r. ⌜ Listed (classTwo messages (firstMessages n cycle)) (now (out .entry)) (now (out .exit)) r ⌝ }
 {
-    let needed = FIXED + names_length(messages, cycle, n);
+    let needed = CYCLE_FIXED + names_length(messages, cycle, n);
     if out.len() < needed {
         return answers::no_room(needed);
     }

@@ -8,7 +8,7 @@ ghost use Rattle.text.specs.Written.{Wrote};
 ghost use Rattle.plan_listing.specs.PlanText.{numberLine, classHead};
 
 // How many bytes the header and the class have, a line each. A class is one digit.
-pub(crate) const HEAD: usize = text::words::PLAN_HEADER.len()
+pub(crate) const CLASS_HEAD: usize = text::words::PLAN_HEADER.len()
     + text::words::NEWLINE.len()
     + text::words::CLASS.len()
     + text::words::TAB.len()

@@ -14,13 +14,13 @@ use text::Name;
 
 // How many bytes stand before the messages' lines, but for the digits of the least count: the head, and `networks`, a tab and the
 // end of the line.
-const BEFORE_MAPS: usize = crate::HEAD
+const BEFORE_MAPS: usize = crate::CLASS_HEAD
     + text::words::NETWORKS.len()
     + text::words::TAB.len()
     + text::words::NEWLINE.len();
 
 // How many bytes a message's line has beside its name and its network: `map`, two tabs and the end of the line.
-const FIXED: usize = text::words::MAP.len()
+const MAP_FIXED: usize = text::words::MAP.len()
     + text::words::TAB.len()
     + text::words::TAB.len()
     + text::words::NEWLINE.len();
@@ -43,7 +43,7 @@ fn map_length(name: Name, network: Network) -> usize
     ensures { λ r. ⌜ TextLength (mapText (nameText name) (network .0)) 33 r ⌝ }
 {
     let n = network.0;
-    FIXED + text::names::name_length(name) + digits(n)
+    MAP_FIXED + text::names::name_length(name) + digits(n)
 }
 
 // How many bytes the lines of all messages have.

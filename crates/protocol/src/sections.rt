@@ -16,7 +16,7 @@ ghost use Rattle.cells.specs.Told.{CellTold};
 use cells::CellLine;
 use text::Fields;
 
-// ---- The lines of messages, then those of the sections behind them.
+// ---- messages
 
 // Reads on while only messages were read.
 pub(crate) fn read_messages(text: &[u8], from: usize, first: usize, given: Tables) -> Reading
@@ -48,7 +48,7 @@ pub(crate) fn read_messages(text: &[u8], from: usize, first: usize, given: Table
     read_events(text, at, line, t)
 }
 
-// ---- The lines of events, then those of the sections behind them.
+// ---- events
 
 // Reads on from a line that is no message, or comes too late to be one.
 fn read_events(text: &[u8], from: usize, first: usize, given: Tables) -> Reading
@@ -89,7 +89,7 @@ fn read_events(text: &[u8], from: usize, first: usize, given: Tables) -> Reading
     read_states(text, at, line, t)
 }
 
-// ---- The lines of states, then those of the sections behind them.
+// ---- states
 
 // Reads on from a line that is no message or event, or comes too late to be one.
 fn read_states(text: &[u8], from: usize, first: usize, given: Tables) -> Reading
@@ -121,7 +121,7 @@ fn read_states(text: &[u8], from: usize, first: usize, given: Tables) -> Reading
     read_cells(text, at, line, t)
 }
 
-// ---- The lines of cells, to the end of a protocol text.
+// ---- cells, to the end of the text
 
 // A cell's line, after what was read so far.
 fn cell_of(line: &[u8], f: Fields, nth: usize, t: Tables) -> CellLine
@@ -164,12 +164,12 @@ fn read_cells(text: &[u8], from: usize, first: usize, given: Tables) -> Reading
             let why = lines::misplaced::misplaced(part, f, line);
             return crate::whole::refused_at(why);
         }
-        let r = cell_of(part, f, line, t);
-        if r.refusal.number != 0 {
-            return crate::whole::refused_at(r.refusal);
+        let told = cell_of(part, f, line, t);
+        if told.refusal.number != 0 {
+            return crate::whole::refused_at(told.refusal);
         }
         let count = t.cell_count;
-        let row = r.cell;
+        let row = told.cell;
         t.cells[count] = row;
         t.cell_count = count + 1;
         at = e + 1;

@@ -27,7 +27,6 @@
 
 ghost use Prim.Native.Nat.{_<_, _≤_};
 ghost use lib.ListN.{length};
-ghost use mathlib.Core.Path.{_≡_};
 
 // The state after a draw, which is also what it gives.
 fn draw(state: usize) -> usize

@@ -1,28 +1,16 @@
 -- Tables whose numbers are in range are accepted.
-use Prim.Native.Nat.{ℕ, zero, suc, _<_}
+use Prim.Native.Nat.{ℕ, _<_}
 use mathlib.Core.Path.{_≡_, refl, sym, subst}
 use mathlib.Core.Logic.{inl, inr}
 use mathlib.Core.List.{List, [], _∷_}
 use native.Mathlib.Decide.{ℕ-discrete}
 use native.Mathlib.Omega.{arith}
-use lib.ListN.{length, getD}
 use Rattle.rules.specs.Lists.{_∈_, Some}
 use Rattle.rules.specs.Rules.{Trigger, message, event, Outcome, stall, go, Cell, Enters, Carrier, Carries, Stalls, ofCells, Trigger-discrete, Outcome-discrete}
 use Rattle.rules.specs.Promises.{Accepted}
 use Rattle.rules.proofs.Pigeon.{in?}
 use Rattle.rules.proofs.Decided.{both?}
 use Rattle.rules.proofs.Entry.{some?, some-map, some-get, enters?}
-
--- the same by index, as the code goes
-pub some-at : (P : Cell → Type 0) (cells : List Cell) (d : Cell) (i : ℕ) → i < length cells → P (getD cells i d) → Some P cells
-some-at P [] d i h q = absurd (omega arith)
-some-at P (c ∷ cells) d zero h q = inl q
-some-at P (c ∷ cells) d (suc i) h q = inr (some-at P cells d i (omega arith) q)
-
-pub at-some : (P : Cell → Type 0) (cells : List Cell) (d : Cell) → Some P cells → (i : ℕ) × (i < length cells) × P (getD cells i d)
-at-some P [] d h = absurd h
-at-some P (c ∷ cells) d (inl q) = (zero, omega arith, q)
-at-some P (c ∷ cells) d (inr h) = let r = at-some P cells d h in (suc (r .0), omega (arith, r .1), r .2)
 
 -- the numbers of a cell that stand for messages are numbers of messages
 abbrev pub InRange : ℕ → Cell → Type 0

@@ -39,10 +39,6 @@ pub chain-exactly : (R : Rel) (a x : ℕ) (l : List ℕ) → Chain R a (l ++ x �
 chain-exactly R a x [] c = (x, c .0, refl)
 chain-exactly R a x (b ∷ l) c = (b, c .0, chain-exactly R b x l (c .1))
 
-pub exactly-chain : (R : Rel) (k a x : ℕ) → Exactly R (suc k) a x → (l : List ℕ) × Chain R a (l ++ x ∷ []) × (length l ≡ k)
-exactly-chain R zero a x t = ([], (rw (t .2) at (t .1), tt), refl)
-exactly-chain R (suc k) a x t = let r = exactly-chain R k (t .0) x (t .2) in (t .0 ∷ r .0, (t .1, r .1), ap suc (r .2))
-
 -- ---- the shown cycle, chosen message by message
 
 -- from any place of a closed walk on, the start is reached in exactly the steps that are left

@@ -26,20 +26,14 @@ no-cell-determined = equal _
 pub cleared-determined : Determines (λ (r : Tables). r ≡ clearedTables)
 cleared-determined = equal _
 
--- ---- The public contract determines what the function gives back.
-
 pub any-clash-determined : (cells : List Cell) (n : ℕ) (c : Cell) → Determines (λ (r : Bool). r ≡ anyClash c (take n cells))
 any-clash-determined cells n c = equal _
-
--- ---- What each contract allows is one answer.
 
 pub message-named-determined : (rows : List MessageRow) (n : ℕ) (x : List ℕ) → Determines (λ (r : FoundMessage). r ≡ foundMessage (firstIndex (messageNamed x) (take n rows)) n)
 message-named-determined rows n x = equal _
 
 pub event-named-determined : (rows : List EventRow) (n : ℕ) (x : List ℕ) → Determines (λ (r : FoundEvent). r ≡ foundEvent (firstIndex (eventNamed x) (take n rows)) n)
 event-named-determined rows n x = equal _
-
--- ---- What the contract allows is one answer.
 
 pub state-named-determined : (rows : List StateRow) (n : ℕ) (c : Controller) (x : List ℕ) → Determines (λ (r : FoundState). r ≡ foundState (firstIndex (stateNamed c x) (take n rows)) n)
 state-named-determined rows n c x = equal _

@@ -1,7 +1,7 @@
 -- What is stored, and what is past it.
 use Prim.Native.Nat.{ℕ, zero, suc, _+_, _-_, _≤_, _<_}
 use mathlib.Core.Path.{_≡_, refl, sym, subst, ap, _∙_}
-use mathlib.Core.List.{List, [], _∷_, _++_, map}
+use mathlib.Core.List.{List, [], _∷_, _++_}
 use native.Mathlib.Numerals.{add-one}
 use native.Mathlib.Omega.{arith}
 use lib.ListN.{length, take, drop, set, replicate}
@@ -12,7 +12,7 @@ use Rattle.tables.specs.declared.StateRow.{StateRow}
 use Rattle.tables.specs.declared.Cell.{Cell}
 use Rattle.tables.specs.declared.Tables.{Tables}
 use Rattle.tables.specs.Tables.{noMessage, noEvent, noState, noCell, clearedTables, messagesOf, eventsOf, statesOf, storedOf, withMessage, withEvent, withState, withCell, ClearedPast}
-use Rattle.tables.specs.Cells.{asRuleCell, Each, CellOk, TablesOk}
+use Rattle.tables.specs.Cells.{Each, CellOk, TablesOk}
 use Rattle.tables.proofs.Gather.{each-snoc, each-map}
 use Rattle.tables.proofs.InRange.{cell-more}
 
@@ -49,10 +49,6 @@ state-stored t row h = take-stored (t .states) (t .«state_count») row h
 pub cell-stored : (t : Tables) (c : Cell) → t .«cell_count» < length (t .cells) → storedOf (withCell t c) ≡ storedOf t ++ (c ∷ [])
 unfolding withCell
 cell-stored t c h = take-stored (t .cells) (t .«cell_count») c h
-
-map-snoc : (l : List Cell) (c : Cell) → map asRuleCell (l ++ (c ∷ [])) ≡ map asRuleCell l ++ (asRuleCell c ∷ [])
-map-snoc [] c = refl
-map-snoc (d ∷ l) c = ap (λ m. asRuleCell d ∷ m) (map-snoc l c)
 
 -- ---- what is past a count is as cleared, always
 

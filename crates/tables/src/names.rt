@@ -1,4 +1,4 @@
-// Names in the tables: which message or event has one, and what is found of each kind.
+// Names in the tables: which message, event or state has one.
 ghost use mathlib.Core.Path.{_≡_};
 ghost use Prim.Native.Nat.{_≤_};
 ghost use lib.ListN.{take};
@@ -65,7 +65,7 @@ pub fn event_named(events: [EventRow; crate::EVENTS], count: usize, part: &[u8])
     FoundEvent::Nothing
 }
 
-// ---- Names in the tables: which state of a controller has one.
+// ---- states, which have a name space for each controller
 
 // Whether two controllers are the same one.
 fn same_controller(a: Controller, b: Controller) -> bool

@@ -26,17 +26,11 @@ count-determined text b = equal _
 pub wrote-determined : (text old : List ℕ) → DeterminesLent (Wrote text old)
 wrote-determined text old new₁ new₂ r s v w = (equal _ r s (v .count) (w .count), equal _ new₁ new₂ (v .bytes) (w .bytes))
 
--- ---- What the contract allows is one answer.
-
 pub fields-of-determined : (text : List ℕ) (from to : ℕ) → Determines (λ (r : Fields). r ≡ fieldsOf text from to)
 fields-of-determined text from to = equal _
 
--- ---- What the contract allows is one answer.
-
 pub is-name-determined : (l : List ℕ) → Determines (λ (r : Bool). r ≡ nameRule l)
 is-name-determined l = equal _
-
--- ---- What each contract allows is one answer.
 
 pub no-name-determined : Determines (λ (r : Name). r ≡ nameOf [])
 no-name-determined = equal _
@@ -49,8 +43,6 @@ name-length-determined n = equal _
 
 pub named-determined : (n : Name) (l : List ℕ) → Determines (λ (r : Bool). r ≡ sameText (nameText n) l)
 named-determined n l = equal _
-
--- ---- What each contract allows is one answer, the number and every lent byte.
 
 -- a text at a place, `more`, `more_number` and `more_name`
 pub pasted-determined : (text : List ℕ) (at : ℕ) (old : List ℕ) → DeterminesLent (Pasted text at old)

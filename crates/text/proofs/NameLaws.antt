@@ -99,10 +99,6 @@ pub name-text : (l : List ℕ) → nameText (nameOf l) ≡ l
 unfolding nameOf
 name-text l = take-at l (replicate (24 - length l) 0) (length l) refl
 
-pub name-length : (l : List ℕ) → nameOf l .length ≡ length l
-unfolding nameOf
-name-length l = refl
-
 -- as many bytes as a front has are that front
 kept-text : (n : ℕ) (l : List ℕ) → take (length (take n l)) l ≡ take n l
 kept-text zero l = refl

@@ -1,5 +1,4 @@
-// Texts as bytes: compared, searched, counted and copied. The definitions of fields, names and written texts stand here too;
-// the functions that meet them are in crates above.
+// Texts as bytes: compared, searched, counted and copied; and what fields and names are kept in.
 pub mod line_fields;
 pub mod names;
 pub mod words;

@@ -1,4 +1,4 @@
-// Names as they are kept in tables.
+// Names: as they are kept in tables, and the rule that their bytes keep.
 ghost use mathlib.Core.Path.{_≡_};
 ghost use mathlib.Core.List.{[]};
 ghost use Prim.Native.Nat.{_≤_};
@@ -52,7 +52,7 @@ pub fn named(name: crate::Name, part: &[u8]) -> bool
     crate::same(&bytes[..count], part)
 }
 
-// ---- The rule that the bytes of a name keep.
+// ---- the name rule
 
 // Whether a name may hold this byte.
 fn name_byte(b: u8) -> bool

@@ -1,8 +1,22 @@
-// Writers that take the rest of the output: a text, a number or a name at a place.
+// What is written behind what stands there already: a text, a number or a name, at a place of the output. Each is lent the rest of it.
 ghost use Prim.Native.Nat.{_+_, _≤_};
 ghost use lib.ListN.{length};
 ghost use Rattle.text.specs.Name.{nameText};
 ghost use Rattle.text.specs.Written.{decimal, Pasted, Wrote};
+
+// n in decimal at the front of out.
+fn put_number(out: &mut [u8], n: u32) -> usize
+    requires { ⌜ length (decimal n) ≤ length (now out) ⌝ }
+    ensures { λ r. ⌜ Wrote (decimal n) (now (out .entry)) (now (out .exit)) r ⌝ }
+{
+    if n < 10 {
+        out[0] = n as u8 + 48;
+        return 1;
+    }
+    let at = put_number(out, n / 10);
+    out[at] = (n % 10) as u8 + 48;
+    at + 1
+}
 
 // The text at a place of out.
 pub fn more(out: &mut [u8], at: usize, text: &[u8]) -> usize
@@ -28,20 +42,4 @@ pub fn more_name(out: &mut [u8], at: usize, name: crate::Name) -> usize
     let n = crate::names::name_length(name);
     let bytes = name.bytes;
     more(out, at, &bytes[..n])
-}
-
-// ---- A number in decimal, at the front of the output.
-
-// n in decimal at the front of out.
-fn put_number(out: &mut [u8], n: u32) -> usize
-    requires { ⌜ length (decimal n) ≤ length (now out) ⌝ }
-    ensures { λ r. ⌜ Wrote (decimal n) (now (out .entry)) (now (out .exit)) r ⌝ }
-{
-    if n < 10 {
-        out[0] = n as u8 + 48;
-        return 1;
-    }
-    let at = put_number(out, n / 10);
-    out[at] = (n % 10) as u8 + 48;
-    at + 1
 }

@@ -2,7 +2,7 @@
 // A file that can't be opened counts as an empty text.
 
 // One byte more than the largest text: so much tells that a text is too big.
-const MOST: usize = 49153;
+const MOST: usize = papers::MOST_BYTES + 1;
 
 fn main() {
     let mut protocol = [0u8; MOST];

@@ -1,7 +1,7 @@
 // The planning program: a protocol text on standard input, the listing or the refusal on standard output.
 
 // One byte more than the largest text: so much tells that a text is too big.
-const MOST: usize = 49153;
+const MOST: usize = papers::MOST_BYTES + 1;
 
 fn main() {
     let mut text = [0u8; MOST];

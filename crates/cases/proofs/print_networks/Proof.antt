@@ -16,8 +16,8 @@ loop-holds c = search needs
 array-copy-out-network : tie.Need-array-copy-out-network Inv-loop μ-loop
 array-copy-out-network c = search needs
 
-index-requires : tie.Need-index-requires Inv-loop μ-loop
-index-requires c κs = search needs
+cast-print-number : tie.Need-cast-print-number Inv-loop μ-loop
+cast-print-number c = search needs
 
 print-number-requires : tie.Need-print-number-requires Inv-loop μ-loop
 print-number-requires c κs = search needs
@@ -42,7 +42,7 @@ print-networks-spec =
     μ-loop
     loop-holds
     array-copy-out-network
-    index-requires
+    cast-print-number
     print-number-requires
     add-i
     loop-less

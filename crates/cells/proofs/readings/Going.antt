@@ -15,7 +15,7 @@ use Rattle.tables.specs.names.Names.{stateAt, isState}
 use Rattle.text.specs.Line.{Line, field}
 use Rattle.lines.specs.Line.{cellController, sentFields, cellOf}
 use Rattle.lines.specs.Checks.{allMessages, knownCell, inStable}
-use Rattle.cells.specs.shapes.Shape.{Goes}
+use Rattle.cells.specs.shapes.Shape.{GoLine}
 use Rattle.cells.specs.declared.places.Place.{Place}
 use Rattle.cells.specs.places.Place.{PlaceTold}
 use Rattle.cells.specs.declared.targets.Target.{Target}
@@ -27,7 +27,7 @@ use Rattle.cells.proofs.readings.Whole.{same-cell, unknown, parted, own
 module _ (f : Line) (whose : Controller)
     (messages : List MessageRow) (message-count : ℕ) (events : List EventRow) (event-count : ℕ) (states : List StateRow) (state-count : ℕ)
     (p : Place) (at : PlaceTold f whose messages message-count events event-count states state-count p) where
-  module _ (g : Target) (to : TargetTold f whose messages message-count states state-count g) (s : Goes f whose) (k : p .known ≡ true) where
+  module _ (g : Target) (to : TargetTold f whose messages message-count states state-count g) (s : GoLine f whose) (k : p .known ≡ true) where
     -- where it goes to is what is left to know
     left : (t : Tables) → Declared t messages message-count events event-count states state-count → knownCell t f ≡ g .known
     left t d =

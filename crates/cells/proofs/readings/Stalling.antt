@@ -20,7 +20,7 @@ use Rattle.tables.specs.names.Names.{stateAt, isState}
 use Rattle.text.specs.Line.{Line, field}
 use Rattle.lines.specs.Line.{cell, cellController, sentFields, sentOf, cellOf, sentFrom}
 use Rattle.lines.specs.Checks.{allMessages, knownCell, isStable, inStable, stallInStable}
-use Rattle.cells.specs.shapes.Shape.{Stalls}
+use Rattle.cells.specs.shapes.Shape.{StallLine}
 use Rattle.cells.specs.declared.places.Place.{Place}
 use Rattle.cells.specs.places.Place.{PlaceTold}
 use Rattle.cells.proofs.targets.Sending.{noMessages}
@@ -30,7 +30,7 @@ use Rattle.cells.proofs.readings.Whole.{same-cell, parted, own}
 module _ (f : Line) (whose : Controller)
     (messages : List MessageRow) (message-count : ℕ) (events : List EventRow) (event-count : ℕ) (states : List StateRow) (state-count : ℕ)
     (p : Place) (at : PlaceTold f whose messages message-count events event-count states state-count p) where
-  pub stalling : (b : Bool) → Stalls f whose → p .known ≡ true → b ≡ isStable (getD (take state-count states) (p .state .0) noState .stability)
+  pub stalling : (b : Bool) → StallLine f whose → p .known ≡ true → b ≡ isStable (getD (take state-count states) (p .state .0) noState .stability)
       → CellRead f messages message-count events event-count states state-count (record { known = true; stuck = b; cell = record { state = p .state; trigger = p .trigger; outcome = Stall; sent = noMessages; «sent_count» = 0 } })
   unfolding inStable cellOf sentOf
   stalling b s k e = record { known = know; stuck = stick; cell = is-cell; cleared = λ q. absurd (true≢false q) }

@@ -23,7 +23,7 @@ use Rattle.lines.proofs.words.Words.{controller-is, controller-nothing}
 use Rattle.lines.proofs.Sections.{other-word}
 use Rattle.lines.proofs.Both.{and-left, and-right}
 use Rattle.cells.specs.declared.shapes.Shape.the-variants.{Stall, Go, Wrong}
-use Rattle.cells.specs.shapes.Shape.{shapeOf, Stalls, Goes}
+use Rattle.cells.specs.shapes.Shape.{shapeOf, StallLine, GoLine}
 
 -- ---- the count of fields
 
@@ -114,7 +114,7 @@ module _ (f : Line) where
   unfolding sameText
   other w = other-word (field f 4) goWord stallWord w refl
 
-  stalls : isController (field f 1) ≡ true → stallShape f ≡ true → Stalls f (cellController f)
+  stalls : isController (field f 1) ≡ true → stallShape f ≡ true → StallLine f (cellController f)
   stalls p q =
       record {
         shape = shaped-by true true (goShape f) p q refl;
@@ -123,7 +123,7 @@ module _ (f : Line) where
         long = eqb-true (length f) 5 (and-left (eqb (length f) 5) (says f 4 stallWord) q);
       }
 
-  goes : isController (field f 1) ≡ true → stallShape f ≡ false → goShape f ≡ true → Goes f (cellController f)
+  goes : isController (field f 1) ≡ true → stallShape f ≡ false → goShape f ≡ true → GoLine f (cellController f)
   goes p q r =
       let n = and-left (leb 6 (length f) && leb (length f) 14) (says f 4 goWord) r in
       record {
@@ -135,10 +135,10 @@ module _ (f : Line) where
       }
 
   -- a shaped line stalls or goes on
-  pub shaped-way : shaped cell f ≡ true → Stalls f (cellController f) ⊎ Goes f (cellController f)
+  pub shaped-way : shaped cell f ≡ true → StallLine f (cellController f) ⊎ GoLine f (cellController f)
   shaped-way e = go (isController (field f 1)) (stallShape f) (goShape f) refl refl refl
     where
-      go : (a b c : Bool) → isController (field f 1) ≡ a → stallShape f ≡ b → goShape f ≡ c → Stalls f (cellController f) ⊎ Goes f (cellController f)
+      go : (a b c : Bool) → isController (field f 1) ≡ a → stallShape f ≡ b → goShape f ≡ c → StallLine f (cellController f) ⊎ GoLine f (cellController f)
       go false b c p q r = absurd (let z : false ≡ true = sym (shaped-by false b c p q r) ∙ e in let y : _≡_ {A = ℕ} 0 1 = cc in omega arith)
       go true true c p q r = inl (stalls p q)
       go true false true p q r = inr (goes p q r)
@@ -153,26 +153,26 @@ module _ (f : Line) where
       go true false true p q r = absurd (let z : Wrong ≡ Go (cellController f) = e ∙ by true false true p q r in let y : _≡_ {A = ℕ} 0 1 = cc in omega arith)
       go true false false p q r = shaped-by true false false p q r
 
-  pub stall-shape : (whose : Controller) → Stall whose ≡ shapeOf f → Stalls f whose
+  pub stall-shape : (whose : Controller) → Stall whose ≡ shapeOf f → StallLine f whose
   stall-shape whose e = go (isController (field f 1)) (stallShape f) (goShape f) refl refl refl
     where
-      go : (a b c : Bool) → isController (field f 1) ≡ a → stallShape f ≡ b → goShape f ≡ c → Stalls f whose
+      go : (a b c : Bool) → isController (field f 1) ≡ a → stallShape f ≡ b → goShape f ≡ c → StallLine f whose
       go false b c p q r = absurd (let z : Stall whose ≡ Wrong = e ∙ by false b c p q r in let y : _≡_ {A = ℕ} 0 1 = cc in omega arith)
       go true true c p q r =
           let z : Stall whose ≡ Stall (cellController f) = e ∙ by true true c p q r in
           let y : cellController f ≡ whose = cc in
-          subst (Stalls f) y (stalls p q)
+          subst (StallLine f) y (stalls p q)
       go true false true p q r = absurd (let z : Stall whose ≡ Go (cellController f) = e ∙ by true false true p q r in let y : _≡_ {A = ℕ} 0 1 = cc in omega arith)
       go true false false p q r = absurd (let z : Stall whose ≡ Wrong = e ∙ by true false false p q r in let y : _≡_ {A = ℕ} 0 1 = cc in omega arith)
 
-  pub go-shape : (whose : Controller) → Go whose ≡ shapeOf f → Goes f whose
+  pub go-shape : (whose : Controller) → Go whose ≡ shapeOf f → GoLine f whose
   go-shape whose e = go (isController (field f 1)) (stallShape f) (goShape f) refl refl refl
     where
-      go : (a b c : Bool) → isController (field f 1) ≡ a → stallShape f ≡ b → goShape f ≡ c → Goes f whose
+      go : (a b c : Bool) → isController (field f 1) ≡ a → stallShape f ≡ b → goShape f ≡ c → GoLine f whose
       go false b c p q r = absurd (let z : Go whose ≡ Wrong = e ∙ by false b c p q r in let y : _≡_ {A = ℕ} 0 1 = cc in omega arith)
       go true true c p q r = absurd (let z : Go whose ≡ Stall (cellController f) = e ∙ by true true c p q r in let y : _≡_ {A = ℕ} 0 1 = cc in omega arith)
       go true false true p q r =
           let z : Go whose ≡ Go (cellController f) = e ∙ by true false true p q r in
           let y : cellController f ≡ whose = cc in
-          subst (Goes f) y (goes p q r)
+          subst (GoLine f) y (goes p q r)
       go true false false p q r = absurd (let z : Go whose ≡ Wrong = e ∙ by true false false p q r in let y : _≡_ {A = ℕ} 0 1 = cc in omega arith)

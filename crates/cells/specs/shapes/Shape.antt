@@ -16,14 +16,14 @@ shapeOf f =
     cond (isController (field f 1)) (cond (stallShape f) (Stall (cellController f)) (cond (goShape f) (Go (cellController f)) Wrong)) Wrong
 
 -- The line is a stalling cell of this controller.
-pub record Stalls (f : Line) (whose : Controller) : Type 0 where
+pub record StallLine (f : Line) (whose : Controller) : Type 0 where
   pub shape : shaped cell f ≡ true
   pub is : whose ≡ cellController f
   pub word : says f 4 stallWord ≡ true
   pub long : length f ≡ 5
 
 -- The line is a cell of this controller that goes on.
-pub record Goes (f : Line) (whose : Controller) : Type 0 where
+pub record GoLine (f : Line) (whose : Controller) : Type 0 where
   pub shape : shaped cell f ≡ true
   pub is : whose ≡ cellController f
   pub word : says f 4 stallWord ≡ false

@@ -1,6 +1,6 @@
 -- `examples::judged` is safe and ends.
-use borrow.Author.Needs.{needs}
 use Rattle.text.proofs.Written.{wrote-within, wrote-counts}
+use borrow.Author.Needs.{needs}
 use Rattle.examples.proofs.judged.Statement.{statement}
 use Rattle.examples.proofs.judged.Tie as tie
 
@@ -28,14 +28,11 @@ array-share-prefix-mapping c = search needs
 slice-aggregate-print-judgement-2 : tie.Need-slice-aggregate-print-judgement-2
 slice-aggregate-print-judgement-2 c = search needs
 
-slice-aggregate-print-judgement-3 : tie.Need-slice-aggregate-print-judgement-3
-slice-aggregate-print-judgement-3 c = search needs
-
 print-judgement-requires : tie.Need-print-judgement-requires
 print-judgement-requires c κs = search needs
 
-array-share-prefix-out : tie.Need-array-share-prefix-out
-array-share-prefix-out c = wrote-within _ _ _ _ (c .before .print-judgement .ensures .wrote)
+array-share-prefix-bytes : tie.Need-array-share-prefix-bytes
+array-share-prefix-bytes c = wrote-within _ _ _ _ (c .before .print-judgement .ensures .wrote)
 
 slice-aggregate-write-all : tie.Need-slice-aggregate-write-all
 slice-aggregate-write-all c = wrote-counts _ _ _ _ (c .before .before .print-judgement .ensures .wrote)
@@ -58,9 +55,8 @@ judged-spec =
     slice-aggregate-print-judgement
     array-share-prefix-mapping
     slice-aggregate-print-judgement-2
-    slice-aggregate-print-judgement-3
     print-judgement-requires
-    array-share-prefix-out
+    array-share-prefix-bytes
     slice-aggregate-write-all
     write-all-requires
     returns)

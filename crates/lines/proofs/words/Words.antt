@@ -39,7 +39,7 @@ module _ (x : List ℕ) where
   unfolding foundKind
   says-no-kind a b c d = rw (a, b, c, d)
 
--- ---- The words of a state: what a field is found to say, from the comparisons with each word.
+-- ---- a state
 
 -- ---- one field
 

@@ -1,4 +1,4 @@
--- What a field is found to say of a message's type.
+-- What a field is found to say: a message's type, a state's controller, stable or transient.
 use Prim.Native.Nat.{ℕ}
 use mathlib.Core.Bool.{cond}
 use mathlib.Core.List.{List}
@@ -13,7 +13,7 @@ use Rattle.lines.specs.declared.words.FoundStability.the-variants.{Is as
 unfoldable pub foundKind : List ℕ → FoundKind
 foundKind x = cond (isKind x) (IsKind (kindOf x)) NoKind
 
--- ---- What a field is found to say of a state.
+-- ---- a state
 
 unfoldable pub foundController : List ℕ → FoundController
 foundController x = cond (isController x) (IsController (controllerOf x)) NoController

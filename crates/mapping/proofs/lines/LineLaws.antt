@@ -14,7 +14,6 @@ use Rattle.text.specs.Words.{mapWord}
 use Rattle.text.specs.Fields.{fieldsOf}
 use Rattle.text.specs.declared.Fields.{Fields}
 use Rattle.text.proofs.FieldLaws.{FieldAt}
-use Rattle.rules.specs.declared.Network.{Network}
 use Rattle.papers.specs.declared.Refusal.{Refusal}
 use Rattle.papers.specs.Checks.{Check, check, refusal, none, firstOf}
 use Rattle.papers.proofs.Checks.{first-given, first-passed}

@@ -5,7 +5,6 @@ use Rattle.rules.specs.declared.Network.{Network}
 use Rattle.mapping.specs.declared.networks.FoundNetwork.{FoundNetwork}
 use Rattle.mapping.specs.declared.networks.FoundNetwork.the-variants.{Is as IsNetwork, Nothing as NoNetwork}
 use Prim.Native.Nat.{ℕ}
-use mathlib.Core.Bool.{Bool}
 use mathlib.Core.List.{List}
 use Rattle.rules.specs.Lists.{upTo}
 use Rattle.text.specs.Parts.{sameText, firstIndex}

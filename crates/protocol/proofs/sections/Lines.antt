@@ -16,7 +16,7 @@ use Rattle.declarations.specs.declared.messages.MessageLine.{MessageLine}
 use Rattle.declarations.specs.declared.events.EventLine.{EventLine}
 use Rattle.declarations.specs.declared.states.StateLine.{StateLine}
 use Rattle.text.specs.Line.{says}
-use Rattle.lines.specs.Line.{Section, message, event, state, cell, unknown, sectionOf, messageOf, eventOf, stateOf, cellOf}
+use Rattle.lines.specs.Line.{Section, message, event, state, cell, unknown, messageOf, eventOf, stateOf, cellOf}
 use Rattle.lines.specs.Told.{Refuses}
 use Rattle.declarations.specs.messages.Told.{MessageTold}
 use Rattle.declarations.specs.events.Told.{EventTold}

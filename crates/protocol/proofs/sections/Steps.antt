@@ -12,7 +12,6 @@ use Rattle.papers.proofs.Walk.{walk-next}
 use Rattle.tables.specs.declared.Tables.{Tables}
 use Rattle.lines.specs.Told.{Refuses}
 use Rattle.lines.specs.Checks.{lineRefusal}
-use Rattle.protocol.specs.declared.whole.Reading.{Reading}
 use Rattle.protocol.specs.sections.Sections.{lineAt}
 use Rattle.protocol.specs.whole.Whole.{refused, accepted, unless, wholeRefusal}
 use Rattle.protocol.specs.sections.Lines.{stored, readLines}

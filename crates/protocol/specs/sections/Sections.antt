@@ -10,7 +10,7 @@ use Rattle.tables.specs.declared.Tables.{Tables}
 use Rattle.lines.specs.Line.{Section, message, event, state, cell, unknown, sectionOf}
 use Rattle.lines.specs.Checks.{laterRead}
 
--- Line `line` starts at the place `at`.
+-- A line, or the end, of a text that is not too big stands at the place `at`. `line` is at most two more than the place, so it can be counted on.
 pub record Placed (text : List ℕ) (at line : ℕ) : Type 0 where
   pub lined : Lined text at
   pub small : length text ≤ 49152

@@ -1,6 +1,6 @@
 -- What a reading of a protocol text gives, and what is asked of the whole text.
 use Prim.Native.Nat.{ℕ, _+_}
-use mathlib.Core.Bool.{Bool, true, false, decide, cond}
+use mathlib.Core.Bool.{Bool, decide, cond}
 use mathlib.Core.List.{List, [], _∷_}
 use lib.Dec.{eqb, ltb}
 use Rattle.rules.specs.Rules.{Cell}

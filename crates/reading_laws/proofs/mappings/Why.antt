@@ -3,14 +3,13 @@ use mathlib.Core.Path.{_≡_, refl, sym, ap, ap₂, _∙_, subst}
 use mathlib.Core.Bool.{Bool, true, false, not}
 use mathlib.Core.List.{List, [], _∷_, _++_, append-assoc, append-nil}
 use mathlib.Core.Logic.{_⊎_, inl, inr, ⊎-elim}
-use Prim.Native.Nat.{ℕ, zero, suc, _+_, _-_, _≤_, _<_}
+use Prim.Native.Nat.{ℕ, zero, suc, _+_, _<_}
 use native.Mathlib.Omega.{arith}
 use native.Mathlib.Nat.{add-zero}
-use lib.ListN.{length, getD, drop, replicate, List·getD-map, List·getD-eq-default}
+use lib.ListN.{length, getD, drop, replicate}
 use lib.Seq.{drop-drop}
-use lib.Dec.{eqb, ltb}
-use borrow.Author.Tests.{eqb-true, eqb-false, not-false, ltb-true, ltb-false}
-use Rattle.rules.specs.declared.Network.{Network}
+use lib.Dec.{eqb}
+use borrow.Author.Tests.{eqb-true, eqb-false, not-false, ltb-true}
 use Rattle.text.specs.Parts.{split, lines}
 use Rattle.text.specs.Words.{mappingHeader}
 use Rattle.papers.specs.declared.Refusal.{Refusal}
@@ -23,7 +22,7 @@ use Rattle.tables.proofs.AllCells.{getD-zeros}
 use Rattle.mapping.specs.declared.Mapped.{Mapped}
 use Rattle.text.specs.Line.{field}
 use Rattle.mapping.specs.lines.Line.{mapShaped, matches, mapChecks, mapRefusal}
-use Rattle.mapping.specs.networks.Networks.{networkOf, isNetwork, networkNo}
+use Rattle.mapping.specs.networks.Networks.{networkOf, isNetwork}
 use Rattle.mapping.specs.Reading.{mapsAccepted, mapsRefused, readMaps, readMapping}
 use Rattle.reading_laws.specs.mappings.Why.{MapsPassed, BadMap, MapsEndEarly, MapsAccepted, BadMapOpening, MapsAnswered, MappingAnswered, MappingAccepted, BadTold}
 use Rattle.mapping.proofs.ReadLaws.{maps-more, maps-stop, reading-refused, reading-opened}
@@ -197,22 +196,3 @@ pub pad-at : (l : List ℕ) (n i : ℕ) → getD (l ++ replicate n 0) i 0 ≡ ge
 pad-at [] n i = getD-zeros n i
 pad-at (x ∷ l) n zero = refl
 pad-at (x ∷ l) n (suc i) = pad-at l n i
-
-module _ (next : List MessageRow) (k : ℕ) (ls : List (List ℕ)) (r : Mapped) (a : MapsAccepted next k ls [] r) where
-  pub network-at : (i : ℕ) → getD (r .networks) i (networkNo 0) ≡ networkNo (getD (a .ns) i 0)
-  network-at i =
-      ap (λ (m : Mapped). getD (m .networks) i (networkNo 0)) (a .is)
-      ∙ List·getD-map networkNo (a .ns ++ replicate (32 - length (a .ns)) 0) i 0 ∙ ap networkNo (pad-at (a .ns) (32 - length (a .ns)) i)
-
-  -- all are below 32
-  pub networks-below : (i : ℕ) → getD (r .networks) i (networkNo 0) .0 < 32
-  networks-below i =
-      subst (λ (m : Network). m .0 < 32) (sym (network-at i)) (go (ltb i (length (a .ns))) refl)
-    where
-      go : (t : Bool) → ltb i (length (a .ns)) ≡ t → getD (a .ns) i 0 < 32
-      go true e = a .below i (ltb-true i (length (a .ns)) e)
-      go false e = omega (arith, List·getD-eq-default (a .ns) 0 {n = i} (ltb-false i (length (a .ns)) e))
-
-  -- past the last message they are 0
-  pub networks-past : (i : ℕ) → length next ≤ i → getD (r .networks) i (networkNo 0) ≡ networkNo 0
-  networks-past i h = network-at i ∙ ap networkNo (List·getD-eq-default (a .ns) 0 {n = i} (omega (arith, a .count)))

@@ -18,7 +18,6 @@ use Rattle.tables.specs.Tables.{clearedTables}
 use Rattle.text.specs.Line.{Line}
 use Rattle.lines.specs.Line.{sectionOf}
 use Rattle.lines.specs.Checks.{lineRefusal}
-use Rattle.lines.proofs.Numbers.{tells-number, lineNumber, refuses}
 use Rattle.protocol.specs.declared.whole.Reading.{Reading}
 use Rattle.protocol.specs.whole.Whole.{refused, accepted, unless, wholeRefusal}
 use Rattle.protocol.specs.sections.Lines.{stored, readLines}

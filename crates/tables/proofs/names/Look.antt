@@ -72,10 +72,6 @@ module _ {A : Type 0} (p : A → Bool) (rows : List A) (n : ℕ) (d : A) where
           before = λ j g. ap p (sym (getD-take n rows j d (omega arith))) ∙ first-before p (take n rows) d j g;
         }
 
-    -- where nothing was found, no row passes
-    pub first-absent : n ≤ firstIndex p (take n rows) → (j : ℕ) → j < n → p (getD rows j d) ≡ false
-    first-absent h j g = ap p (sym (getD-take n rows j d g)) ∙ first-before p (take n rows) d j (omega arith)
-
 -- ---- what an answer tells
 
 -- `back` reads an answer's place: one more than it, and 0 where there is none

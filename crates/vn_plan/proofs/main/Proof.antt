@@ -1,6 +1,6 @@
--- `vn_plan::main` is safe and ends. What it prints is proved of `plan_program::print_plan`.
-use borrow.Author.Needs.{needs}
+-- `vn_plan::main` is safe and ends. What it prints is proved of `plan::program::print_plan`.
 use Rattle.text.proofs.Written.{wrote-within, wrote-counts}
+use borrow.Author.Needs.{needs}
 use Rattle.vn_plan.proofs.main.Statement.{statement}
 use Rattle.vn_plan.proofs.main.Tie as tie
 
@@ -16,14 +16,11 @@ array-share-prefix-text c = search needs
 slice-aggregate-print-plan : tie.Need-slice-aggregate-print-plan
 slice-aggregate-print-plan c = search needs
 
-slice-aggregate-print-plan-2 : tie.Need-slice-aggregate-print-plan-2
-slice-aggregate-print-plan-2 c = search needs
-
 print-plan-requires : tie.Need-print-plan-requires
 print-plan-requires c κs = search needs
 
-array-share-prefix-out : tie.Need-array-share-prefix-out
-array-share-prefix-out c = wrote-within _ _ _ _ (c .before .print-plan .ensures .wrote)
+array-share-prefix-bytes : tie.Need-array-share-prefix-bytes
+array-share-prefix-bytes c = wrote-within _ _ _ _ (c .before .print-plan .ensures .wrote)
 
 slice-aggregate-write-all : tie.Need-slice-aggregate-write-all
 slice-aggregate-write-all c = wrote-counts _ _ _ _ (c .before .before .print-plan .ensures .wrote)
@@ -42,9 +39,8 @@ main-spec =
     read-full-requires
     array-share-prefix-text
     slice-aggregate-print-plan
-    slice-aggregate-print-plan-2
     print-plan-requires
-    array-share-prefix-out
+    array-share-prefix-bytes
     slice-aggregate-write-all
     write-all-requires
     returns)

@@ -1,6 +1,6 @@
 -- `answers::refused_text::put_refused` meets its contract.
 use borrow.Author.Needs.{needs}
-use mathlib.Core.List.{List, _++_}
+use mathlib.Core.List.{_++_}
 use Rattle.text.specs.Words.{refusedWord}
 use Rattle.text.specs.Written.{Wrote}
 use Rattle.answers.specs.refused_text.RefusedText.{tabbedNumber}

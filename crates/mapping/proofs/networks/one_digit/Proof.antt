@@ -1,5 +1,4 @@
 -- `mapping::networks::one_digit` meets its contract.
-use mathlib.Core.Path.{sym}
 use native.Mathlib.Omega.{arith}
 use Rattle.mapping.proofs.networks.NetworkLaws.{one-found, one-none, found-network, found-none}
 use Rattle.mapping.proofs.networks.one_digit.Statement.{statement}
