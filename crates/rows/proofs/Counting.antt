@@ -1,6 +1,5 @@
 -- Counts: how large they are, and that they see only the numbers below the bound.
-use Prim.Native.Nat.{ℕ, zero, suc, _+_, _*_, _<_, _≤_}
-use mathlib.Core.Path.{_≡_}
+use Prim.Native.Nat.{ℕ, zero, suc, _*_, _<_, _≤_}
 use mathlib.Core.Logic.{inl, inr, _↔_}
 use native.Mathlib.Nat.{suc-mul}
 use native.Mathlib.Omega.{arith}
