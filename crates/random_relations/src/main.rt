@@ -22,7 +22,8 @@
 //
 // Each byte of the output is 255 before the call. The line has, parted by blanks: n as it was given, refusal number,
 // length, networks, length needed, waits pairs, and the whole output, a character for each byte: the digits 0 to 9 and
-// a to v for 0 to 31, a dot for 255, and a question mark for everything else.
+// a to v for 0 to 31, a dot for 255, and a question mark for everything else. The line of an accepted call ends in a blank,
+// the word `joins`, a blank and the number of row joins.
 
 ghost use Prim.Native.Nat.{_<_, _≤_};
 ghost use lib.ListN.{length};
@@ -205,6 +206,15 @@ fn print_number(number: usize) {
     io::write_all(1, b" ");
 }
 
+// The row joins of an accepted call.
+fn print_joins(number: u8, joins: usize) {
+    if number != 0 {
+        return;
+    }
+    io::write_all(1, b" joins ");
+    io::print_decimal(1, joins as u64);
+}
+
 // Makes one call and prints its line.
 fn report(n: usize, causes: &[u8], stalls: &[u8], out: &mut [u8]) {
     let answer = relations::relations(n, causes, stalls, out);
@@ -216,6 +226,7 @@ fn report(n: usize, causes: &[u8], stalls: &[u8], out: &mut [u8]) {
     print_number(answer.pairs);
     show(out);
     io::write_all(1, out);
+    print_joins(answer.number, answer.joins);
     io::write_all(1, b"\n");
 }
 

@@ -11,19 +11,20 @@ use Rattle.determined.specs.Determined.{Determines, DeterminesLent}
 use Rattle.determined.proofs.Equal.{equal}
 use Rattle.rules.specs.Rules.{Relations}
 use Rattle.rules.proofs.Promises.{determined, one-class}
+use Rattle.rows.specs.Rows.{ofRows}
 use Rattle.text.specs.Written.{wrote}
 use Rattle.relations.specs.declared.answer.RelationsAnswer.{RelationsAnswer}
 use Rattle.relations.specs.answer.Packed.{packedRelations}
-use Rattle.relations.specs.row_bytes.RowBytes.{relationsOfBytes}
+use Rattle.relations.specs.row_bytes.RowBytes.{rowsOfBytes}
 use Rattle.relations.specs.checks.CallChecks.{relationsRefusal}
 use Rattle.relations.specs.plans.Plans.{Class3, Class2, RelationsPlanned}
 use Rattle.relations.specs.Call.{RelationsCall}
 
-same-answer : (r s : RelationsAnswer) → r .number ≡ s .number → r .length ≡ s .length → r .networks ≡ s .networks → r .needed ≡ s .needed → r .pairs ≡ s .pairs → r ≡ s
-same-answer r s a b c d e =
+same-answer : (r s : RelationsAnswer) → r .number ≡ s .number → r .length ≡ s .length → r .networks ≡ s .networks → r .needed ≡ s .needed → r .pairs ≡ s .pairs → r .joins ≡ s .joins → r ≡ s
+same-answer r s a b c d e f =
     let t : _≡_ {A = RelationsAnswer}
-    (record { number = r .number; length = r .length; networks = r .networks; needed = r .needed; pairs = r .pairs })
-    (record { number = s .number; length = s .length; networks = s .networks; needed = s .needed; pairs = s .pairs }) = cc
+    (record { number = r .number; length = r .length; networks = r .networks; needed = r .needed; pairs = r .pairs; joins = r .joins })
+    (record { number = s .number; length = s .length; networks = s .networks; needed = s .needed; pairs = s .pairs; joins = s .joins }) = cc
     in t
 
 module _ (p : Relations) where
@@ -37,20 +38,21 @@ module _ (p : Relations) where
   class-one l m j k (inr s) (inl t) = absurd (one-class p l k (s .cycle) (t .least))
   class-one l m j k (inr s) (inr t) = (determined .plan-cycle p l m (s .cycle) (t .cycle), s .none ∙ sym (t .none))
 
-  planned-one : (old : List ℕ) → DeterminesLent (RelationsPlanned p old)
-  planned-one old new new′ r s f g =
-      let c = class-one (f .written) (g .written) (r .networks) (s .networks) (f .class) (g .class) in (
-        same-answer r s (f .number-0 ∙ sym (g .number-0)) (f .wrote .count ∙ ap length (c .0) ∙ sym (g .wrote .count)) (c .1) (f .needed-0 ∙ sym (g .needed-0))
-            (determined .waits-pairs p (r .pairs) (s .pairs) (f .waits-pairs) (g .waits-pairs)),
-        f .wrote .bytes ∙ ap (λ (t : List ℕ). wrote t old) (c .0) ∙ sym (g .wrote .bytes),
-      )
+planned-one : (n : ℕ) (causes stalls old : List ℕ) → DeterminesLent (RelationsPlanned n causes stalls old)
+planned-one n causes stalls old new new′ r s f g =
+    let p = ofRows n causes stalls in
+    let c = class-one p (f .written) (g .written) (r .networks) (s .networks) (f .class) (g .class) in (
+      same-answer r s (f .number-0 ∙ sym (g .number-0)) (f .wrote .count ∙ ap length (c .0) ∙ sym (g .wrote .count)) (c .1) (f .needed-0 ∙ sym (g .needed-0))
+          (determined .waits-pairs p (r .pairs) (s .pairs) (f .waits-pairs) (g .waits-pairs)) (f .row-joins ∙ sym (g .row-joins)),
+      f .wrote .bytes ∙ ap (λ (t : List ℕ). wrote t old) (c .0) ∙ sym (g .wrote .bytes),
+    )
 
 -- two answers of the call, with the bytes that they leave
 pub call-one : (size most n : ℕ) (causes stalls old : List ℕ) → DeterminesLent (RelationsCall size most n causes stalls old)
 call-one size most n causes stalls old new new′ r s f g = go (ℕ-discrete (relationsRefusal size most n causes stalls (length old) .number) 0)
   where
     go : Dec (relationsRefusal size most n causes stalls (length old) .number ≡ 0) → (r ≡ s) × (new ≡ new′)
-    go (yes z) = planned-one (relationsOfBytes size n causes stalls) old new new′ r s (f .planned z) (g .planned z)
+    go (yes z) = planned-one n (rowsOfBytes size n causes) (rowsOfBytes size n stalls) old new new′ r s (f .planned z) (g .planned z)
     go (no q) = (f .refused q .answer ∙ sym (g .refused q .answer), f .refused q .bytes ∙ sym (g .refused q .bytes))
 
 pub packed-one : (a : RelationsAnswer) → Determines (λ (r : ℕ). r ≡ packedRelations a)

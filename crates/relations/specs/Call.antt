@@ -5,7 +5,7 @@ use mathlib.Core.Logic.{_≢_}
 use mathlib.Core.List.{List}
 use lib.ListN.{length}
 use Rattle.relations.specs.declared.answer.RelationsAnswer.{RelationsAnswer}
-use Rattle.relations.specs.row_bytes.RowBytes.{relationsOfBytes}
+use Rattle.relations.specs.row_bytes.RowBytes.{rowsOfBytes}
 use Rattle.relations.specs.checks.CallChecks.{relationsRefusal, refusedRelations}
 use Rattle.relations.specs.plans.Plans.{RelationsPlanned}
 
@@ -18,4 +18,5 @@ pub record RelationsRefused (number n : ℕ) (old new : List ℕ) (r : Relations
 pub record RelationsCall (size most n : ℕ) (causes stalls old new : List ℕ) (r : RelationsAnswer) : Type 0 where
   pub refused : relationsRefusal size most n causes stalls (length old) .number ≢ 0
       → RelationsRefused (relationsRefusal size most n causes stalls (length old) .number) n old new r
-  pub planned : relationsRefusal size most n causes stalls (length old) .number ≡ 0 → RelationsPlanned (relationsOfBytes size n causes stalls) old new r
+  pub planned : relationsRefusal size most n causes stalls (length old) .number ≡ 0
+      → RelationsPlanned n (rowsOfBytes size n causes) (rowsOfBytes size n stalls) old new r

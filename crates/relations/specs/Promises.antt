@@ -1,5 +1,6 @@
 -- What is promised of the relations call beside its contract.
-use Prim.Native.Nat.{ℕ, _≤_}
+use Prim.Native.Nat.{ℕ, _*_, _≤_}
+use mathlib.Core.Path.{_≡_}
 use mathlib.Core.Logic.{_≢_}
 use mathlib.Core.List.{List}
 use lib.ListN.{length}
@@ -16,3 +17,8 @@ RelationsUnderRow = (size most n : ℕ) (causes stalls : List ℕ) (room : ℕ) 
 -- What is written fits the lent output.
 abbrev pub RelationsFit : Type 0
 RelationsFit = (size most n : ℕ) (causes stalls old new : List ℕ) (r : RelationsAnswer) → RelationsCall size most n causes stalls old new r → r .length ≤ length old
+
+-- Of an accepted call the number of row joins "is at most n times n for n messages".
+abbrev pub RelationsFewJoins : Type 0
+RelationsFewJoins = (size most n : ℕ) (causes stalls old new : List ℕ) (r : RelationsAnswer) → RelationsCall size most n causes stalls old new r
+    → relationsRefusal size most n causes stalls (length old) .number ≡ 0 → r .joins ≤ n * n

@@ -14,6 +14,8 @@ pub struct RelationsAnswer {
     pub needed: usize,
     // the number of waits pairs
     pub pairs: usize,
+    // the number of row joins in closing causes
+    pub joins: usize,
 }
 
 // The answer as one number, for a host.
@@ -26,5 +28,11 @@ pub fn packed(a: RelationsAnswer) -> u64
     let networks = a.networks as u64;
     let needed = a.needed as u64;
     let pairs = a.pairs as u64;
-    number + length * 256 + networks * 65536 + needed * 16777216 + pairs * 4294967296
+    let joins = a.joins as u64;
+    number
+        + length * 256
+        + networks * 65536
+        + needed * 16777216
+        + pairs * 4294967296
+        + joins * 281474976710656
 }

@@ -50,6 +50,7 @@ pub(crate) fn refusal(number: u8, n: usize) -> RelationsAnswer
         networks: 0,
         needed: 0,
         pairs: 0,
+        joins: 0,
     };
     if number == papers::ROOM {
         r.needed = n;

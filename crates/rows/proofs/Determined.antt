@@ -9,10 +9,12 @@ use native.Mathlib.Omega.{arith}
 use lib.ListN.{getD}
 use lib.Seq.{ext-getD}
 use Rattle.determined.specs.Determined.{Determines}
+use Rattle.determined.proofs.Equal.{equal}
 use Rattle.rules.proofs.Unique.{counts-one}
 use Rattle.rows.specs.Rows.{Bit}
 use Rattle.rows.specs.Row.{With, Without, Join, Meet, AllBelow, Lowest, Ones}
 use Rattle.rows.specs.Closure.{KeptFrom, Closure}
+use Rattle.rows.specs.Joins.{joins}
 use Rattle.rows.specs.Determined.{DeterminesRow, DeterminesRows, DeterminesWords}
 use Rattle.rows.proofs.Bits.{same-bits}
 
@@ -74,3 +76,7 @@ words-one n R r s u v f g =
 
 pub closure-one : (w n : ℕ) (given : List ℕ) → DeterminesRows w (Closure n given)
 closure-one w n given r s hr hs f g = relation-one _ w n given r s hr hs (f .reached, f .kept) (g .reached, g .kept)
+
+-- and the number of row joins in closing them
+pub joins-one : (n : ℕ) (given : List ℕ) → Determines (λ (r : ℕ). r ≡ joins n given)
+joins-one n given = equal _

@@ -1,5 +1,6 @@
 pub mod Bits
 pub mod Given
+pub mod Counting
 pub mod FillingRows
 pub mod Determined
 pub mod Together

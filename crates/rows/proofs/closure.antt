@@ -1,1 +1,3 @@
 pub mod Warshall
+pub mod Joining
+pub mod Orders

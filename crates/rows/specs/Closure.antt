@@ -1,10 +1,11 @@
 -- The closure of a table of rows, and what its loops do.
-use Prim.Native.Nat.{ℕ, _<_, _≤_}
+use Prim.Native.Nat.{ℕ, _+_, _<_, _≤_}
 use mathlib.Core.Path.{_≡_}
 use mathlib.Core.Logic.{_⊎_, _↔_}
 use mathlib.Core.List.{List}
 use lib.ListN.{length, getD}
 use Rattle.rules.specs.Walks.{Rel, Plus}
+use Rattle.rules.specs.Plan.{Counts}
 use Rattle.rows.specs.Rows.{Bit}
 
 -- A step of the first n rows: it starts below n, and bit j of row i says where it may end.
@@ -25,7 +26,16 @@ pub record Closure (n : ℕ) (given rows : List ℕ) : Type 0 where
 pub record Joined (row other k r : ℕ) : Type 0 where
   pub bits : (j : ℕ) → Bit r j ↔ (Bit row j ⊎ (Bit row k × Bit other j))
 
+-- The count goes from c to d: one more if the row holds message k.
+pub record Counted (row k c d : ℕ) : Type 0 where
+  pub one-more : Bit row k → d ≡ c + 1
+  pub as-it-was : ¬ Bit row k → d ≡ c
+
 -- A round of the closure: each of the first n rows takes in row k if it has bit k.
 pub record Round (given : List ℕ) (n k : ℕ) (rows : List ℕ) : Type 0 where
   pub each : (i : ℕ) → i < n → Joined (getD given i 0) (getD given k 0) k (getD rows i 0)
   pub kept : KeptFrom n given rows
+
+-- Of the first n rows, c hold message k.
+pub record Holders (rows : List ℕ) (n k c : ℕ) : Type 0 where
+  pub counted : Counts (λ i. Bit (getD rows i 0) k) n c

@@ -1,41 +1,67 @@
-// The closure of a table of rows, in place.
+// The closure of a table of rows, in place, and how many row joins it takes.
+ghost use mathlib.Core.Path.{_≡_};
 ghost use Prim.Native.Nat.{_<_, _≤_};
 ghost use lib.ListN.{length};
-ghost use Rattle.rows.specs.Closure.{Joined, Round, Closure};
+ghost use Rattle.rows.specs.Closure.{Joined, Counted, Round, Holders, Closure};
+ghost use Rattle.rows.specs.Joins.{joins};
 
-// The row takes in the other if it has bit k.
-fn joined(row: u32, other: u32, k: usize) -> u32
-    requires { ⌜ k < 32 ⌝ }
-    ensures { λ r. ⌜ Joined row other k r ⌝ }
+// What a turn of one row gives.
+struct Turn {
+    // the row after it
+    row: u32,
+    // the joins counted so far
+    count: usize,
+}
+
+// The turn of one row: if it has bit k it takes in the other, and a join is counted.
+fn joined(row: u32, other: u32, k: usize, count: usize) -> Turn
+    requires { ⌜ (k < 32) × (count < 32) ⌝ }
+    ensures { λ r. ⌜ Joined row other k (r .row) ⌝ }
+    ensures { λ r. ⌜ Counted row k count (r .count) ⌝ }
 {
+    let more = count + 1;
     if crate::has(row, k) {
-        crate::join(row, other)
+        Turn {
+            row: crate::join(row, other),
+            count: more,
+        }
     } else {
-        row
+        Turn {
+            row: row,
+            count: count,
+        }
     }
 }
 
-// Each of the first n rows takes in row k if it has bit k.
-fn round(t: &mut [u32], n: usize, k: usize)
+// Each of the first n rows takes in row k if it has bit k; gives how many did.
+fn round(t: &mut [u32], n: usize, k: usize) -> usize
     requires { ⌜ (n ≤ 32) × (k < n) × (n ≤ length (now t)) ⌝ }
     ensures { λ _. ⌜ Round (now (t .entry)) n k (now (t .exit)) ⌝ }
+    ensures { λ r. ⌜ Holders (now (t .entry)) n k r ⌝ }
 {
     let own = t[k];
+    let mut count: usize = 0;
     let mut i: usize = 0;
     while i < n {
-        t[i] = joined(t[i], own, k);
+        let turn = joined(t[i], own, k, count);
+        t[i] = turn.row;
+        count = turn.count;
         i += 1;
     }
+    count
 }
 
-// The closure of the first n rows, in place: one or more steps.
-pub fn closure(t: &mut [u32], n: usize)
+// The closure of the first n rows, in place: one or more steps. Gives the number of row joins.
+pub fn closure(t: &mut [u32], n: usize) -> usize
     requires { ⌜ (n ≤ 32) × (n ≤ length (now t)) ⌝ }
     ensures { λ _. ⌜ Closure n (now (t .entry)) (now (t .exit)) ⌝ }
+    ensures { λ r. ⌜ r ≡ joins n (now (t .entry)) ⌝ }
 {
+    let mut joins: usize = 0;
     let mut k: usize = 0;
     while k < n {
-        round(t, n, k);
+        joins += round(t, n, k);
         k += 1;
     }
+    joins
 }

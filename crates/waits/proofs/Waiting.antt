@@ -19,6 +19,7 @@ use Rattle.rows.specs.Row.{Without, Join, Lowest, Ones}
 use Rattle.rows.specs.Closure.{RowStep, KeptFrom, Closure}
 use Rattle.rows.proofs.Bits.{bit?, bit-zero}
 use Rattle.rows.proofs.Given.{rows-accepted}
+use Rattle.rows.proofs.Counting.{counts-le}
 use Rattle.waits.specs.Waiting.{Tidy, Spread, Gathered, WaitsRows, RowPairs}
 
 -- ---- one row, taken in by many
@@ -148,11 +149,6 @@ module _ (n : ℕ) (causes stalls old new : List ℕ) (w : WaitsRows n causes st
   waits-same b c = (λ r. w .bits b c (r .i-below) .0 (r .bit), λ x. let h = x .1 .j-below in record { i-below = h; j-below = waits-below b c h x; bit = w .bits b c h .1 x })
 
 -- ---- the number of pairs
-
-pub counts-le : (P : ℕ → Type 0) (n k : ℕ) → Counts P n k → k ≤ n
-counts-le P zero k e = omega arith
-counts-le P (suc n) k (inl t) = omega (arith, counts-le P n (t .0) (t .2), t .3)
-counts-le P (suc n) k (inr t) = omega (arith, counts-le P n k (t .1))
 
 -- none from n on: it is the same to count below n
 counts-cut : (P : ℕ → Type 0) (n w k : ℕ) → n ≤ w → ((j : ℕ) → P j → j < n) → Counts P w k → Counts P n k

@@ -1,10 +1,12 @@
 // The rows of waits by rule 4, and the number of waits pairs.
 pub mod steps;
 
+ghost use mathlib.Core.Path.{_≡_};
 ghost use Prim.Native.Nat.{ℕ, _<_, _≤_};
 ghost use lib.ListN.{length};
 ghost use Rattle.rows.specs.Rows.{Bit};
 ghost use Rattle.rows.specs.Closure.{Closure};
+ghost use Rattle.rows.specs.Joins.{joins};
 ghost use Rattle.waits.specs.Waiting.{Tidy, Spread, Cleared, Gathered, WaitsRows, WaitsOnly, RowPairs};
 use rows::WIDTH;
 
@@ -46,14 +48,16 @@ fn gather(closed: &[u32], stalls: &[u32], n: usize, waits: &mut [u32])
     }
 }
 
-// The rows of waits, by rule 4. The rows of causes are closed on the way.
-pub fn waits(causes: &mut [u32], stalls: &[u32], n: usize, waits: &mut [u32])
+// The rows of waits, by rule 4. The rows of causes are closed on the way; gives the number of row joins that this takes.
+pub fn waits(causes: &mut [u32], stalls: &[u32], n: usize, waits: &mut [u32]) -> usize
     requires { ⌜ (n ≤ 32) × (n ≤ length (now causes)) × (n ≤ length (now stalls)) × (n ≤ length (now waits)) × Tidy n (now causes) × Tidy n (now stalls) ⌝ }
     ensures { λ _. ⌜ Closure n (now (causes .entry)) (now (causes .exit)) ⌝ }
     ensures { λ _. ⌜ WaitsRows n (now (causes .entry)) (now (stalls .entry)) (now (waits .entry)) (now (waits .exit)) ⌝ }
+    ensures { λ r. ⌜ r ≡ joins n (now (causes .entry)) ⌝ }
 {
-    rows::closure::closure(causes, n);
+    let joins = rows::closure::closure(causes, n);
     gather(causes, stalls, n, waits);
+    joins
 }
 
 // The number of pairs of the first n rows: ones counted over each row.

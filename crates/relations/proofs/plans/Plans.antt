@@ -13,7 +13,9 @@ use Rattle.rules.proofs.Same.{height-same, pairs-same, shown-same}
 use Rattle.rules.proofs.Least.{least-count, longest-from}
 use Rattle.rules.proofs.Decided.{waits-within, plus-closed}
 use Rattle.rows.specs.Rows.{Bit, Rows, ofRows}
+use Rattle.rows.specs.Joins.{joins}
 use Rattle.rows.proofs.Given.{rows-accepted}
+use Rattle.rows.proofs.closure.Joining.{joins-same}
 use Rattle.walks.specs.Walks.{Heights, Cycle}
 use Rattle.waits.specs.Waiting.{Tidy, WaitsRows, RowPairs}
 use Rattle.waits.proofs.Waiting.{waits-same}
@@ -62,12 +64,13 @@ module _ (n : ℕ) (causes stalls rows : List ℕ) (some-message : 0 < n) (same 
     cycle = shown-same (Rows n rows) (Waits (ofRows n causes stalls)) (Rows n rows) (Waits (ofRows n causes stalls)) same same bytes (t .shown);
   }
 
-  pub planned : (old new : List ℕ) (r : RelationsAnswer) → WaitsPlan n rows old new r → RelationsPlanned (ofRows n causes stalls) old new r
-  planned old new r f = record {
+  pub planned : (j : ℕ) (old new : List ℕ) (r : RelationsAnswer) → j ≡ joins n causes → WaitsPlan n rows j old new r → RelationsPlanned n causes stalls old new r
+  planned j old new r e f = record {
     written = f .written;
     wrote = f .wrote;
     class = ⊎-elim (λ t. inl (class-3 (f .written) (r .networks) t)) (λ t. inr (class-2 (f .written) (r .networks) t)) (f .class);
     waits-pairs = pairs-same (Rows n rows) (Waits (ofRows n causes stalls)) same n n (r .pairs) (f .row-pairs .counted);
+    row-joins = f .row-joins ∙ e;
     number-0 = f .number-0;
     needed-0 = f .needed-0;
   }
@@ -81,6 +84,10 @@ same-waits n causes causes′ stalls stalls′ old rows e f w b c =
       λ x. s .1 (waits-agree n causes′ causes stalls′ stalls (agree-sym n causes causes′ e) (agree-sym n stalls stalls′ f) b c x),
     )
 
+-- the joins were counted on rows that agree with the table's
+pub same-joins : (n j : ℕ) (causes causes′ : List ℕ) → Agree n causes causes′ → n ≤ length causes → length causes′ ≡ n → j ≡ joins n causes → j ≡ joins n causes′
+same-joins n j causes causes′ e long long′ told = told ∙ joins-same n causes causes′ e long (omega arith)
+
 -- ---- what is written
 
 pub wrote-first : (k : ℕ) (old new : List ℕ) → length new ≡ length old → k ≤ length old → drop k new ≡ drop k old → Wrote (take k new) old new k
@@ -93,9 +100,9 @@ wrote-first k old new long fits rest =
 
 -- ---- the plan of the rows, from the walks
 
-module _ (n : ℕ) (rows old : List ℕ) (room : n ≤ length old) (sum : ℕ) (counted : RowPairs n rows sum) where
+module _ (n : ℕ) (rows old : List ℕ) (room : n ≤ length old) (sum : ℕ) (counted : RowPairs n rows sum) (j : ℕ) where
   pub ranked : (new : List ℕ) (k : ℕ) → ¬ (k ≡ 0) → Heights rows n old new k
-      → WaitsPlan n rows old new (record { number = 0; length = n; networks = k; needed = 0; pairs = sum })
+      → WaitsPlan n rows j old new (record { number = 0; length = n; networks = k; needed = 0; pairs = sum; joins = j })
   ranked new k g h = record {
     written = take n new;
     wrote = wrote-first n old new (h .long) room (h .rest g);
@@ -108,17 +115,19 @@ module _ (n : ℕ) (rows old : List ℕ) (room : n ≤ length old) (sum : ℕ) (
         }
         );
     row-pairs = counted;
+    row-joins = refl;
     number-0 = refl;
     needed-0 = refl;
   }
 
   pub cycled : (mid new : List ℕ) (k len : ℕ) → k ≡ 0 → Heights rows n old mid k → Cycle rows rows n mid new len
-      → WaitsPlan n rows old new (record { number = 0; length = len; networks = 0; needed = 0; pairs = sum })
+      → WaitsPlan n rows j old new (record { number = 0; length = len; networks = 0; needed = 0; pairs = sum; joins = j })
   cycled mid new k len e h c = record {
     written = take len new;
     wrote = wrote-first len old new (c .long ∙ ap length (h .kept e)) (omega (arith, c .fits)) (c .rest ∙ ap (λ (l : List ℕ). drop len l) (h .kept e));
     class = inr (record { none = refl; shown = c .shown found });
     row-pairs = counted;
+    row-joins = refl;
     number-0 = refl;
     needed-0 = refl;
   }

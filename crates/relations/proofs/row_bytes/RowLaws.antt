@@ -1,6 +1,6 @@
 -- The tables' rows: read, and searched for stray bits.
 use Prim.Native.Nat.{ℕ, zero, suc, _+_, _*_, _<_, _≤_, _^_}
-use mathlib.Core.Path.{_≡_, sym, subst, ap, _∙_}
+use mathlib.Core.Path.{_≡_, refl, sym, subst, ap, _∙_}
 use mathlib.Core.Logic.{_⊎_, inl, inr, _≢_}
 use mathlib.Core.List.{List, _∷_}
 use native.Mathlib.Decide.{decLt}
@@ -18,6 +18,10 @@ use Rattle.waits.specs.Waiting.{Tidy}
 use Rattle.relations.specs.row_bytes.RowBytes.{fromBytes, rowsOfBytes, rowAt, Loaded}
 
 -- ---- a row by its place
+
+pub rows-length : (size n : ℕ) (table : List ℕ) → length (rowsOfBytes size n table) ≡ n
+rows-length size zero table = refl
+rows-length size (suc n) table = ap suc (rows-length size n (drop size table))
 
 pub rows-at : (size n : ℕ) (table : List ℕ) (i : ℕ) → i < n → getD (rowsOfBytes size n table) i 0 ≡ rowAt size table i
 rows-at size zero table i h = absurd (omega arith)

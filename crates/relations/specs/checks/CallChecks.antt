@@ -40,5 +40,6 @@ unfoldable pub relationsRefusal : ℕ → ℕ → ℕ → List ℕ → List ℕ 
 relationsRefusal size most n causes stalls room = firstOf (relationsChecks size most n causes stalls room)
 
 -- "ROOM also returns the length needed, as a number of its own; every other number returned with a refusal is 0." "(length needed: n)"
+-- The number of row joins is one of these: "0 with a refusal".
 unfoldable pub refusedRelations : ℕ → ℕ → RelationsAnswer
-refusedRelations number n = record { number = number; length = 0; networks = 0; needed = cond (eqb number 16) n 0; pairs = 0 }
+refusedRelations number n = record { number = number; length = 0; networks = 0; needed = cond (eqb number 16) n 0; pairs = 0; joins = 0 }

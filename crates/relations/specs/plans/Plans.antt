@@ -6,7 +6,8 @@ use mathlib.Core.List.{List}
 use lib.ListN.{length, getD}
 use Rattle.rules.specs.Rules.{Relations}
 use Rattle.rules.specs.Plan.{Height, Shown, LeastCount, Printed, WaitsPairs, PlanCycle}
-use Rattle.rows.specs.Rows.{Rows}
+use Rattle.rows.specs.Rows.{Rows, ofRows}
+use Rattle.rows.specs.Joins.{joins}
 use Rattle.waits.specs.Waiting.{RowPairs}
 use Rattle.text.specs.Written.{Wrote}
 use Rattle.relations.specs.declared.answer.RelationsAnswer.{RelationsAnswer}
@@ -24,12 +25,14 @@ pub record Class2 (p : Relations) (bytes : List ℕ) (networks : ℕ) : Type 0 w
   pub none : networks ≡ 0
   pub cycle : PlanCycle p bytes
 
--- "Both also return the number of waits pairs." The lent bytes are `old` at entry and `new` at exit.
-pub record RelationsPlanned (p : Relations) (old new : List ℕ) (r : RelationsAnswer) : Type 0 where
+-- The plan of n messages whose relations the rows of causes and stalls give. The lent bytes are `old` at entry and `new` at exit.
+-- "Both also return the number of waits pairs", and "the number of row joins in closing causes", which "equals the definition's count".
+pub record RelationsPlanned (n : ℕ) (causes stalls old new : List ℕ) (r : RelationsAnswer) : Type 0 where
   pub written : List ℕ
   pub wrote : Wrote written old new (r .length)
-  pub class : Class3 p written (r .networks) ⊎ Class2 p written (r .networks)
-  pub waits-pairs : WaitsPairs p (r .pairs)
+  pub class : Class3 (ofRows n causes stalls) written (r .networks) ⊎ Class2 (ofRows n causes stalls) written (r .networks)
+  pub waits-pairs : WaitsPairs (ofRows n causes stalls) (r .pairs)
+  pub row-joins : r .joins ≡ joins n causes
   pub number-0 : r .number ≡ 0
   pub needed-0 : r .needed ≡ 0
 
@@ -47,10 +50,12 @@ pub record Cycled (n : ℕ) (rows bytes : List ℕ) (networks : ℕ) : Type 0 wh
   pub none : networks ≡ 0
   pub shown : Shown (Rows n rows) (Rows n rows) bytes
 
-pub record WaitsPlan (n : ℕ) (rows old new : List ℕ) (r : RelationsAnswer) : Type 0 where
+-- The joins are told as they are given: they were counted while the rows were made.
+pub record WaitsPlan (n : ℕ) (rows : List ℕ) (joins : ℕ) (old new : List ℕ) (r : RelationsAnswer) : Type 0 where
   pub written : List ℕ
   pub wrote : Wrote written old new (r .length)
   pub class : Ranked n rows written (r .networks) ⊎ Cycled n rows written (r .networks)
   pub row-pairs : RowPairs n rows (r .pairs)
+  pub row-joins : r .joins ≡ joins
   pub number-0 : r .number ≡ 0
   pub needed-0 : r .needed ≡ 0

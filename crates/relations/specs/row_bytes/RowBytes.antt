@@ -4,8 +4,6 @@ use Prim.Native.Nat.{ℕ, zero, suc, _+_, _*_, _<_}
 use mathlib.Core.Path.{_≡_}
 use mathlib.Core.List.{List, [], _∷_}
 use lib.ListN.{getD, take, drop}
-use Rattle.rules.specs.Rules.{Relations}
-use Rattle.rows.specs.Rows.{ofRows}
 use Rattle.rows.specs.Closure.{KeptFrom}
 
 -- The number that some bytes are, lowest first.
@@ -17,10 +15,6 @@ fromBytes (b ∷ bytes) = b + 256 * fromBytes bytes
 abbrev pub rowsOfBytes : ℕ → ℕ → List ℕ → List ℕ
 rowsOfBytes size zero table = []
 rowsOfBytes size (suc n) table = fromBytes (take size table) ∷ rowsOfBytes size n (drop size table)
-
--- The relations of n messages that two tables give.
-abbrev pub relationsOfBytes : ℕ → ℕ → List ℕ → List ℕ → Relations
-relationsOfBytes size n causes stalls = ofRows n (rowsOfBytes size n causes) (rowsOfBytes size n stalls)
 
 -- Row i, by its place in the table.
 abbrev pub rowAt : ℕ → List ℕ → ℕ → ℕ

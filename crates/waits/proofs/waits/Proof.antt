@@ -21,7 +21,7 @@ returns c =
     let s = c .before .before .before .before .before .before .before .before .before .before .before .before in
     let cl = c .before .before .before .before .before .before .before .closure in
     let g = c .before .before .gather in
-    (cl .ensures, waits-of (s .args .n) (s .args .causes .now) (s .pre .4) (cl .last .0) (s .args .stalls .now) (s .args .waits .now) (g .last .1 .1 .1 .0) (cl .ensures) (g .ensures))
+    (cl .ensures .0, (waits-of (s .args .n) (s .args .causes .now) (s .pre .4) (cl .last .0) (s .args .stalls .now) (s .args .waits .now) (g .last .1 .1 .1 .0) (cl .ensures .0) (g .ensures), cl .ensures .1))
 
 pub waits-spec : {M : Type 1} → statement M
 waits-spec =

@@ -16,7 +16,7 @@ waits-requires : tie.Need-waits-requires
 waits-requires c κs = search needs
 
 returns : tie.Need-returns
-returns c = c .before .before .waits2 .ensures .1
+returns c = c .before .before .waits2 .ensures .1 .0
 
 pub waits-of-spec : {M : Type 1} → statement M
 waits-of-spec =

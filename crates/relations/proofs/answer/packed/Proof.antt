@@ -30,6 +30,12 @@ mul-result-4 c = search needs
 add-result-4 : tie.Need-add-result-4
 add-result-4 c = search needs
 
+mul-result-5 : tie.Need-mul-result-5
+mul-result-5 c = search needs
+
+add-result-5 : tie.Need-add-result-5
+add-result-5 c = search needs
+
 returns : tie.Need-returns
 returns c = search needs
 
@@ -46,4 +52,6 @@ packed-spec =
     add-result-3
     mul-result-4
     add-result-4
+    mul-result-5
+    add-result-5
     returns)

@@ -18,7 +18,7 @@ returns c =
     let s = c .before .before .before .before .before .before .before .before in
     let h = c .before .before .before .heights in
     let p = c .before .before .before .before .before .pairs in
-    ranked (s .args .n) (s .args .waits .now) (s .args .out .now) (s .pre .3) (p .result) (p .ensures) (h .last .1 .1 .0) (h .result) (c .if1 .taken) (h .ensures)
+    ranked (s .args .n) (s .args .waits .now) (s .args .out .now) (s .pre .3) (p .result) (p .ensures) (s .args .joins) (h .last .1 .1 .0) (h .result) (c .if1 .taken) (h .ensures)
 
 cycle-requires : tie.Need-cycle-requires
 cycle-requires c κs = search needs
@@ -32,7 +32,7 @@ returns-2 c =
     let h = c .before .before .before .before .before .before .before .heights in
     let p = c .before .before .before .before .before .before .before .before .before .pairs in
     let y = c .before .before .cycle in
-    cycled (s .args .n) (s .args .waits .now) (s .args .out .now) (s .pre .3) (p .result) (p .ensures) (h .last .1 .1 .0) (y .last .1 .1 .1 .0) (h .result) (y .result) (c .before .before .before .before .if1 .left) (h .ensures) (y .ensures)
+    cycled (s .args .n) (s .args .waits .now) (s .args .out .now) (s .pre .3) (p .result) (p .ensures) (s .args .joins) (h .last .1 .1 .0) (y .last .1 .1 .1 .0) (h .result) (y .result) (c .before .before .before .before .if1 .left) (h .ensures) (y .ensures)
 
 pub plan-rows-spec : {M : Type 1} → statement M
 plan-rows-spec =

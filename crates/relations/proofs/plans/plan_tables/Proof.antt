@@ -4,9 +4,9 @@ use lib.ListN.{length}
 use borrow.Author.Needs.{needs}
 use Rattle.waits.proofs.Waiting.{waits-tidy}
 use Rattle.relations.specs.row_bytes.RowBytes.{rowsOfBytes}
-use Rattle.relations.proofs.row_bytes.RowLaws.{tidy}
+use Rattle.relations.proofs.row_bytes.RowLaws.{rows-length, tidy}
 use Rattle.relations.proofs.checks.Passing.{PassedChecks, passed}
-use Rattle.relations.proofs.plans.Plans.{tidy-agree, planned, same-waits}
+use Rattle.relations.proofs.plans.Plans.{tidy-agree, planned, same-waits, same-joins}
 use Rattle.relations.proofs.plans.plan_tables.Statement.{statement}
 use Rattle.relations.proofs.plans.plan_tables.Tie as tie
 
@@ -60,7 +60,7 @@ slice-aggregate-plan-rows c = search needs
 plan-rows-requires : tie.Need-plan-rows-requires
 plan-rows-requires c κs =
     let s = c .before .before .before .before .before .before .before .before .before .before .before .before .before .before .before .before .before in
-    let w = c .before .before .before .before .waits .ensures .1 in
+    let w = c .before .before .before .before .waits .ensures .1 .0 in
     let k = given s in
     (k .count .some, k .count .few, omega (arith, k .count .few, w .kept .long), k .fits, waits-tidy (s .args .n) (c .before .before .before .before .before .before .before .before .before .before .before .before .load .last .1 .1 .0) (c .before .before .before .before .before .before .before .before .before .load2 .last .1 .1 .0) _ (c .before .before .before .before .waits .last .1 .1 .1 .0) w)
 
@@ -73,9 +73,15 @@ returns c =
     let k = given s in
     let p = c .before .before .plan-rows in
     let w = c .before .before .before .before .before .before .before .waits in
-    planned (s .args .n) (rowsOfBytes 4 (s .args .n) (s .args .causes .now)) (rowsOfBytes 4 (s .args .n) (s .args .stalls .now)) (w .last .1 .1 .1 .0) (k .count .some)
-    (same-waits (s .args .n) (c .before .before .before .before .before .before .before .before .before .before .before .before .before .before .before .load .last .1 .1 .0) (rowsOfBytes 4 (s .args .n) (s .args .causes .now)) (c .before .before .before .before .before .before .before .before .before .before .before .before .load2 .last .1 .1 .0) (rowsOfBytes 4 (s .args .n) (s .args .stalls .now)) _ (w .last .1 .1 .1 .0) (c .before .before .before .before .before .before .before .before .before .before .before .before .before .before .before .load .ensures .rows) (c .before .before .before .before .before .before .before .before .before .before .before .before .load2 .ensures .rows) (w .ensures .1))
-    (s .args .out .now) (p .last .1 .1 .0) (p .result) (p .ensures)
+    let f = c .before .before .before .before .before .before .before .before .before .before .before .before .before .before .before .load in
+    let g = c .before .before .before .before .before .before .before .before .before .before .before .before .load2 in
+    let causes = rowsOfBytes 4 (s .args .n) (s .args .causes .now) in
+    let stalls = rowsOfBytes 4 (s .args .n) (s .args .stalls .now) in
+    planned (s .args .n) causes stalls (w .last .1 .1 .1 .0) (k .count .some)
+    (same-waits (s .args .n) (f .last .1 .1 .0) causes (g .last .1 .1 .0) stalls _ (w .last .1 .1 .1 .0) (f .ensures .rows) (g .ensures .rows) (w .ensures .1 .0))
+    (w .result) (s .args .out .now) (p .last .1 .1 .1 .0) (p .result)
+    (same-joins (s .args .n) (w .result) (f .last .1 .1 .0) causes (f .ensures .rows) (omega (arith, k .count .few, f .ensures .kept .long)) (rows-length 4 (s .args .n) (s .args .causes .now)) (w .ensures .1 .1))
+    (p .ensures)
 
 pub plan-tables-spec : {M : Type 1} → statement M
 plan-tables-spec =
