@@ -33,9 +33,9 @@ pub fn judge_of(t: Tables, networks: [Network; tables::MESSAGES]) -> JudgementFo
     ensures { λ r. ⌜ JudgementIs (relationsOfTables t) (mappingOf networks) r ⌝ }
 {
     let n = t.message_count;
-    let causes = table_rows::causes::causes_rows(t);
+    let mut causes = table_rows::causes::causes_rows(t);
     let stalls = table_rows::stalls::stalls_rows(t);
-    let waits = waits::waits_of(causes, stalls, n);
+    let waits = waits::waits_of(&mut causes, &stalls, n);
     let steps = waits::steps::steps_of(waits, stalls, networks, n);
     judge_of_rows(waits, steps, n)
 }

@@ -100,8 +100,8 @@ pub fn plan_of(t: Tables) -> PlanFound
     ensures { λ r. ⌜ PlanIs (relationsOfTables t) r ⌝ }
 {
     let n = t.message_count;
-    let causes = table_rows::causes::causes_rows(t);
+    let mut causes = table_rows::causes::causes_rows(t);
     let stalls = table_rows::stalls::stalls_rows(t);
-    let waits = waits::waits_of(causes, stalls, n);
+    let waits = waits::waits_of(&mut causes, &stalls, n);
     plan_of_rows(waits, n)
 }

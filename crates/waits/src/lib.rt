@@ -74,13 +74,13 @@ pub fn pairs(rows: &[u32], n: usize) -> usize
     sum
 }
 
-// The rows of waits of n messages, by rule 4. The other rows are 0.
-pub fn waits_of(causes: [u32; WIDTH], stalls: [u32; WIDTH], n: usize) -> [u32; WIDTH]
-    requires { ⌜ (n ≤ 32) × Tidy n causes × Tidy n stalls ⌝ }
-    ensures { λ r. ⌜ WaitsOnly n causes stalls r ⌝ }
+// The rows of waits of n messages, by rule 4. The other rows are 0. The rows of causes are closed on the way, where they stand.
+pub fn waits_of(causes: &mut [u32], stalls: &[u32], n: usize) -> [u32; WIDTH]
+    requires { ⌜ (n ≤ 32) × (n ≤ length (now causes)) × (n ≤ length (now stalls)) × Tidy n (now causes) × Tidy n (now stalls) ⌝ }
+    ensures { λ _. ⌜ Closure n (now (causes .entry)) (now (causes .exit)) ⌝ }
+    ensures { λ r. ⌜ WaitsOnly n (now (causes .entry)) (now (stalls .entry)) r ⌝ }
 {
-    let mut closed = causes;
     let mut waits = [0u32; WIDTH];
-    crate::waits(&mut closed, &stalls, n, &mut waits);
+    crate::waits(causes, stalls, n, &mut waits);
     waits
 }
