@@ -10,6 +10,7 @@ use lib.Bits.{bitOr, or-self}
 use lib.ListN.{getD, set}
 use lib.Seq.{set-getD, getD-set-other}
 use Rattle.rules.specs.Lists.{_∈_, Distinct, upTo}
+use Rattle.rules.proofs.Pigeon.{without, without-other}
 use Rattle.rows.specs.Rows.{Bit}
 use Rattle.rows.specs.Joins.{Moment, joining, turn, turns, inOrder, RowsInAnyOrder}
 use Rattle.rows.proofs.Bits.{bit?}
@@ -75,46 +76,32 @@ module _ (k : ℕ) where
 
 -- ---- lists of rows
 
--- the list without one place that holds x
-rest : (x : ℕ) (l : List ℕ) → x ∈ l → List ℕ
-rest x [] h = []
-rest x (y ∷ l) (inl e) = l
-rest x (y ∷ l) (inr h) = y ∷ rest x l h
+without-in : (x z : ℕ) (l : List ℕ) (h : x ∈ l) → z ∈ without x l h → z ∈ l
+unfolding without
+without-in x z [] h i = absurd h
+without-in x z (y ∷ l) (inl e) i = inr i
+without-in x z (y ∷ l) (inr h) (inl q) = inl q
+without-in x z (y ∷ l) (inr h) (inr i) = inr (without-in x z l h i)
 
-rest-in : (x z : ℕ) (l : List ℕ) (h : x ∈ l) → z ∈ rest x l h → z ∈ l
-unfolding rest
-rest-in x z [] h i = absurd h
-rest-in x z (y ∷ l) (inl e) i = inr i
-rest-in x z (y ∷ l) (inr h) (inl q) = inl q
-rest-in x z (y ∷ l) (inr h) (inr i) = inr (rest-in x z l h i)
+without-not : (x : ℕ) (l : List ℕ) (h : x ∈ l) → Distinct l → ¬ (x ∈ without x l h)
+unfolding without
+without-not x [] h d i = h
+without-not x (y ∷ l) (inl e) d i = d .0 (subst (λ (z : ℕ). z ∈ l) e i)
+without-not x (y ∷ l) (inr h) d (inl q) = d .0 (subst (λ (z : ℕ). z ∈ l) q h)
+without-not x (y ∷ l) (inr h) d (inr i) = without-not x l h (d .1) i
 
-rest-other : (x z : ℕ) (l : List ℕ) (h : x ∈ l) → z ≢ x → z ∈ l → z ∈ rest x l h
-unfolding rest
-rest-other x z [] h d i = absurd h
-rest-other x z (y ∷ l) (inl e) d (inl q) = absurd (d (q ∙ sym e))
-rest-other x z (y ∷ l) (inl e) d (inr i) = i
-rest-other x z (y ∷ l) (inr h) d (inl q) = inl q
-rest-other x z (y ∷ l) (inr h) d (inr i) = inr (rest-other x z l h d i)
-
-rest-not : (x : ℕ) (l : List ℕ) (h : x ∈ l) → Distinct l → ¬ (x ∈ rest x l h)
-unfolding rest
-rest-not x [] h d i = h
-rest-not x (y ∷ l) (inl e) d i = d .0 (subst (λ (z : ℕ). z ∈ l) e i)
-rest-not x (y ∷ l) (inr h) d (inl q) = d .0 (subst (λ (z : ℕ). z ∈ l) q h)
-rest-not x (y ∷ l) (inr h) d (inr i) = rest-not x l h (d .1) i
-
-rest-distinct : (x : ℕ) (l : List ℕ) (h : x ∈ l) → Distinct l → Distinct (rest x l h)
-unfolding rest
-rest-distinct x [] h d = d
-rest-distinct x (y ∷ l) (inl e) d = d .1
-rest-distinct x (y ∷ l) (inr h) d = (λ i. d .0 (rest-in x y l h i), rest-distinct x l h (d .1))
+without-distinct : (x : ℕ) (l : List ℕ) (h : x ∈ l) → Distinct l → Distinct (without x l h)
+unfolding without
+without-distinct x [] h d = d
+without-distinct x (y ∷ l) (inl e) d = d .1
+without-distinct x (y ∷ l) (inr h) d = (λ i. d .0 (without-in x y l h i), without-distinct x l h (d .1))
 
 -- any row of the list may come first
-first-turn : (k x : ℕ) (l : List ℕ) (h : x ∈ l) (m : Moment) → turns k l m ≡ turns k (rest x l h) (turn k x m)
-unfolding rest
+first-turn : (k x : ℕ) (l : List ℕ) (h : x ∈ l) (m : Moment) → turns k l m ≡ turns k (without x l h) (turn k x m)
+unfolding without
 first-turn k x [] h m = absurd h
 first-turn k x (y ∷ l) (inl e) m = ap (λ (z : ℕ). turns k l (turn k z m)) (sym e)
-first-turn k x (y ∷ l) (inr h) m = first-turn k x l h (turn k y m) ∙ ap (turns k (rest x l h)) (turn-comm k x y m)
+first-turn k x (y ∷ l) (inr h) m = first-turn k x l h (turn k y m) ∙ ap (turns k (without x l h)) (turn-comm k x y m)
 
 -- two lists of the same numbers, each of them once
 pub same-turns : (k : ℕ) (l r : List ℕ) (m : Moment) → Distinct l → Distinct r → ((i : ℕ) → (i ∈ l) ↔ (i ∈ r)) → turns k l m ≡ turns k r m
@@ -122,12 +109,12 @@ same-turns k [] [] m dl dr f = refl
 same-turns k [] (y ∷ r) m dl dr f = absurd (f y .1 (inl refl))
 same-turns k (x ∷ l) r m dl dr f =
     let h : x ∈ r = f x .0 (inl refl) in
-    same-turns k l (rest x r h) (turn k x m) (dl .1) (rest-distinct x r h dr)
-    (λ i. (λ a. rest-other x i r h (λ e. dl .0 (subst (λ (z : ℕ). z ∈ l) e a)) (f i .0 (inr a)), λ a. back i h a (f i .1 (rest-in x i r h a))))
+    same-turns k l (without x r h) (turn k x m) (dl .1) (without-distinct x r h dr)
+    (λ i. (λ a. without-other x i r h (λ e. dl .0 (subst (λ (z : ℕ). z ∈ l) e a)) (f i .0 (inr a)), λ a. back i h a (f i .1 (without-in x i r h a))))
     ∙ sym (first-turn k x r h m)
   where
-    back : (i : ℕ) (h : x ∈ r) → i ∈ rest x r h → (i ≡ x) ⊎ (i ∈ l) → i ∈ l
-    back i h a (inl e) = absurd (rest-not x r h dr (subst (λ (z : ℕ). z ∈ rest x r h) e a))
+    back : (i : ℕ) (h : x ∈ r) → i ∈ without x r h → (i ≡ x) ⊎ (i ∈ l) → i ∈ l
+    back i h a (inl e) = absurd (without-not x r h dr (subst (λ (z : ℕ). z ∈ without x r h) e a))
     back i h a (inr b) = b
 
 -- ---- the numbers below n
