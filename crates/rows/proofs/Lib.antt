@@ -1,3 +1,4 @@
+pub mod CountedByHand
 pub mod Bits
 pub mod Given
 pub mod Counting

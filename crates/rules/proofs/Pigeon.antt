@@ -10,7 +10,7 @@ use lib.ListN.{length}
 use Rattle.rules.specs.Lists.{_∈_, Distinct}
 
 -- the list without one place that holds x
-unfoldable pub without : (x : ℕ) (l : List ℕ) → x ∈ l → List ℕ
+without : (x : ℕ) (l : List ℕ) → x ∈ l → List ℕ
 without x [] h = []
 without x (y ∷ l) (inl e) = l
 without x (y ∷ l) (inr h) = y ∷ without x l h
@@ -21,7 +21,7 @@ without-length x [] h = absurd h
 without-length x (y ∷ l) (inl e) = refl
 without-length x (y ∷ l) (inr h) = ap suc (without-length x l h)
 
-pub without-other : (x z : ℕ) (l : List ℕ) (h : x ∈ l) → ¬ (z ≡ x) → z ∈ l → z ∈ without x l h
+without-other : (x z : ℕ) (l : List ℕ) (h : x ∈ l) → ¬ (z ≡ x) → z ∈ l → z ∈ without x l h
 unfolding without
 without-other x z [] h d i = absurd h
 without-other x z (y ∷ l) (inl e) d (inl q) = absurd (d (q ∙ sym e))

@@ -19,7 +19,7 @@ use Rattle.rules.proofs.Search.{Via}
 use Rattle.rows.specs.Rows.{Bit}
 use Rattle.rows.specs.Row.{Join}
 use Rattle.rows.specs.Closure.{RowStep, Closure, Round, Holders}
-use Rattle.rows.specs.Joins.{Moment, joining, turn, turns, inOrder, middles, closing, joins, ClosingCloses, FewJoins, ChainJoins, LateJoins, OwnJoins, MostJoins}
+use Rattle.rows.specs.Joins.{Moment, joining, turn, turns, inOrder, middles, closing, joins, ClosingCloses, FewJoins}
 use Rattle.rows.proofs.Bits.{bit?, bit-or}
 use Rattle.rows.proofs.Counting.{pairs-le}
 use Rattle.rows.proofs.closure.Warshall.{joined-yes, joined-no, counted-yes, counted-no, RoundInv, round-start, round-step, round-end, round-count, Passes, CloseInv, close-start, close-step, close-end, close-count}
@@ -165,21 +165,3 @@ module _ (n : ℕ) (rows rows′ : List ℕ) (same : (i : ℕ) → i < n → get
       pairs-one (Passes n rows′) n n (joins n rows) (joins n rows′)
       (pairs-same (Passes n rows) (Passes n rows′) (λ k i. (via-map (RowStep n rows) (RowStep n rows′) there k i k, via-map (RowStep n rows′) (RowStep n rows) back k i k)) n n (joins n rows) (joins-counted n rows long))
       (joins-counted n rows′ long′)
-
--- ---- counted by hand
-
-pub chain-joins : ChainJoins
-unfolding closing
-chain-joins = refl
-
-pub late-joins : LateJoins
-unfolding closing
-late-joins = refl
-
-pub own-joins : OwnJoins
-unfolding closing
-own-joins = refl
-
-pub most-joins : MostJoins
-unfolding closing
-most-joins = refl

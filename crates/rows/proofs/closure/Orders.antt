@@ -10,7 +10,6 @@ use lib.Bits.{bitOr, or-self}
 use lib.ListN.{getD, set}
 use lib.Seq.{set-getD, getD-set-other}
 use Rattle.rules.specs.Lists.{_∈_, Distinct, upTo}
-use Rattle.rules.proofs.Pigeon.{without, without-other}
 use Rattle.rows.specs.Rows.{Bit}
 use Rattle.rows.specs.Joins.{Moment, joining, turn, turns, inOrder, RowsInAnyOrder}
 use Rattle.rows.proofs.Bits.{bit?}
@@ -76,46 +75,61 @@ module _ (k : ℕ) where
 
 -- ---- lists of rows
 
-without-in : (x z : ℕ) (l : List ℕ) (h : x ∈ l) → z ∈ without x l h → z ∈ l
-unfolding without
-without-in x z [] h i = absurd h
-without-in x z (y ∷ l) (inl e) i = inr i
-without-in x z (y ∷ l) (inr h) (inl q) = inl q
-without-in x z (y ∷ l) (inr h) (inr i) = inr (without-in x z l h i)
+-- x, of the different numbers of a list, may come first, and the others after it
+record Leading (x : ℕ) (l : List ℕ) : Type 0 where
+  others : List ℕ
+  distinct : Distinct others
+  same : (z : ℕ) → (z ∈ others) ↔ ((z ∈ l) × (z ≢ x))
+  turned : (k : ℕ) (m : Moment) → turns k l m ≡ turns k others (turn k x m)
 
-without-not : (x : ℕ) (l : List ℕ) (h : x ∈ l) → Distinct l → ¬ (x ∈ without x l h)
-unfolding without
-without-not x [] h d i = h
-without-not x (y ∷ l) (inl e) d i = d .0 (subst (λ (z : ℕ). z ∈ l) e i)
-without-not x (y ∷ l) (inr h) d (inl q) = d .0 (subst (λ (z : ℕ). z ∈ l) q h)
-without-not x (y ∷ l) (inr h) d (inr i) = without-not x l h (d .1) i
+leading : (x : ℕ) (l : List ℕ) → Distinct l → x ∈ l → Leading x l
+leading x [] d h = absurd h
+leading x (y ∷ l) d (inl e) = record {
+  others = l;
+  distinct = d .1;
+  same = λ z. (λ i. (inr i, λ q. d .0 (subst (λ (v : ℕ). v ∈ l) (q ∙ e) i)), λ t. go z (t .0) (t .1));
+  turned = λ k m. ap (λ (v : ℕ). turns k l (turn k v m)) (sym e);
+}
+  where
+    go : (z : ℕ) → (z ≡ y) ⊎ (z ∈ l) → z ≢ x → z ∈ l
+    go z (inl q) g = absurd (g (q ∙ sym e))
+    go z (inr i) g = i
+leading x (y ∷ l) d (inr h) = go (leading x l (d .1) h)
+  where
+    go : Leading x l → Leading x (y ∷ l)
+    go b = record {
+      others = y ∷ b .others;
+      distinct = (λ i. d .0 (b .same y .0 i .0), b .distinct);
+      same = λ z. (there z, λ t. back z (t .0) (t .1));
+      turned = λ k m. b .turned k (turn k y m) ∙ ap (turns k (b .others)) (turn-comm k x y m);
+    }
+      where
+        there : (z : ℕ) → (z ≡ y) ⊎ (z ∈ b .others) → ((z ≡ y) ⊎ (z ∈ l)) × (z ≢ x)
+        there z (inl q) = (inl q, λ e. d .0 (subst (λ (v : ℕ). v ∈ l) (sym e ∙ q) h))
+        there z (inr i) = (inr (b .same z .0 i .0), b .same z .0 i .1)
 
-without-distinct : (x : ℕ) (l : List ℕ) (h : x ∈ l) → Distinct l → Distinct (without x l h)
-unfolding without
-without-distinct x [] h d = d
-without-distinct x (y ∷ l) (inl e) d = d .1
-without-distinct x (y ∷ l) (inr h) d = (λ i. d .0 (without-in x y l h i), without-distinct x l h (d .1))
-
--- any row of the list may come first
-first-turn : (k x : ℕ) (l : List ℕ) (h : x ∈ l) (m : Moment) → turns k l m ≡ turns k (without x l h) (turn k x m)
-unfolding without
-first-turn k x [] h m = absurd h
-first-turn k x (y ∷ l) (inl e) m = ap (λ (z : ℕ). turns k l (turn k z m)) (sym e)
-first-turn k x (y ∷ l) (inr h) m = first-turn k x l h (turn k y m) ∙ ap (turns k (without x l h)) (turn-comm k x y m)
+        back : (z : ℕ) → (z ≡ y) ⊎ (z ∈ l) → z ≢ x → (z ≡ y) ⊎ (z ∈ b .others)
+        back z (inl q) g = inl q
+        back z (inr i) g = inr (b .same z .1 (i, g))
 
 -- two lists of the same numbers, each of them once
-pub same-turns : (k : ℕ) (l r : List ℕ) (m : Moment) → Distinct l → Distinct r → ((i : ℕ) → (i ∈ l) ↔ (i ∈ r)) → turns k l m ≡ turns k r m
+same-turns : (k : ℕ) (l r : List ℕ) (m : Moment) → Distinct l → Distinct r → ((i : ℕ) → (i ∈ l) ↔ (i ∈ r)) → turns k l m ≡ turns k r m
 same-turns k [] [] m dl dr f = refl
 same-turns k [] (y ∷ r) m dl dr f = absurd (f y .1 (inl refl))
-same-turns k (x ∷ l) r m dl dr f =
-    let h : x ∈ r = f x .0 (inl refl) in
-    same-turns k l (without x r h) (turn k x m) (dl .1) (without-distinct x r h dr)
-    (λ i. (λ a. without-other x i r h (λ e. dl .0 (subst (λ (z : ℕ). z ∈ l) e a)) (f i .0 (inr a)), λ a. back i h a (f i .1 (without-in x i r h a))))
-    ∙ sym (first-turn k x r h m)
+same-turns k (x ∷ l) r m dl dr f = go (λ s. same-turns k l s) (leading x r dr (f x .0 (inl refl)))
   where
-    back : (i : ℕ) (h : x ∈ r) → i ∈ without x r h → (i ≡ x) ⊎ (i ∈ l) → i ∈ l
-    back i h a (inl e) = absurd (without-not x r h dr (subst (λ (z : ℕ). z ∈ without x r h) e a))
-    back i h a (inr b) = b
+    go : ((s : List ℕ) (m : Moment) → Distinct l → Distinct s → ((i : ℕ) → (i ∈ l) ↔ (i ∈ s)) → turns k l m ≡ turns k s m) → Leading x r → turns k (x ∷ l) m ≡ turns k r m
+    go ih b = ih (b .others) (turn k x m) (dl .1) (b .distinct) (λ i. (there i, back i)) ∙ sym (b .turned k m)
+      where
+        there : (i : ℕ) → i ∈ l → i ∈ b .others
+        there i h = b .same i .1 (f i .0 (inr h), λ e. dl .0 (subst (λ (z : ℕ). z ∈ l) e h))
+
+        back : (i : ℕ) → i ∈ b .others → i ∈ l
+        back i h = let t = b .same i .0 h in pick (f i .1 (t .0)) (t .1)
+          where
+            pick : (i ≡ x) ⊎ (i ∈ l) → i ≢ x → i ∈ l
+            pick (inl e) g = absurd (g e)
+            pick (inr j) g = j
 
 -- ---- the numbers below n
 
