@@ -1,4 +1,4 @@
--- The contract of `network_of` leaves one answer.
+-- The contract of `read_mapping` leaves one answer.
 use Prim.Native.Nat.{ℕ}
 use mathlib.Core.Path.{_≡_}
 use mathlib.Core.List.{List}

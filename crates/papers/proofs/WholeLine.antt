@@ -1,4 +1,4 @@
--- Laws of the fields of a whole line: what `fields::fields_of` tells of a line that was lent as a part of its own.
+-- Laws of the fields of a whole line: what `text::line_fields::fields_of` tells of a line that was lent as a part of its own.
 use mathlib.Core.Path.{_≡_, sym, ap, subst}
 use mathlib.Core.List.{List, []}
 use mathlib.Core.Logic.{⊎-elim}

@@ -18,7 +18,7 @@ RelationsUnderRow = (size most n : ℕ) (causes stalls : List ℕ) (room : ℕ) 
 abbrev pub RelationsFit : Type 0
 RelationsFit = (size most n : ℕ) (causes stalls old new : List ℕ) (r : RelationsAnswer) → RelationsCall size most n causes stalls old new r → r .length ≤ length old
 
--- Of an accepted call the number of row joins "is at most n times n for n messages".
+-- C-23: of an accepted call the number of row joins "is at most n times n for n messages".
 abbrev pub RelationsFewJoins : Type 0
 RelationsFewJoins = (size most n : ℕ) (causes stalls old new : List ℕ) (r : RelationsAnswer) → RelationsCall size most n causes stalls old new r
     → relationsRefusal size most n causes stalls (length old) .number ≡ 0 → r .joins ≤ n * n

@@ -1,6 +1,6 @@
--- How many row joins it takes to close a table of rows. "Both forms of the relations call return the number of row joins in closing causes
+-- How many row joins it takes to close a table of rows (02-change-requests.md, C-23). "Both forms of the relations call return the number of row joins in closing causes
 -- [..]: going through middle messages in order, a join is counted each time a row, as it stands at that moment, holds the middle one. It equals
--- the definition's count and is at most n times n for n messages." This is the definition. Nothing here knows a width.
+-- the definition's count and is at most n times n for n messages." This is the definition. Nothing here knows a width; a message is a row's place, and a bit's.
 use Prim.Native.Nat.{ℕ, _+_, _*_, _<_, _≤_, _/_, _%_, _^_}
 use mathlib.Core.Path.{_≡_}
 use mathlib.Core.Bool.{Bool, cond}

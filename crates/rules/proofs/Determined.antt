@@ -4,6 +4,6 @@ use mathlib.Core.Path.{_≡_}
 use Rattle.determined.specs.Determined.{Determines}
 use Rattle.determined.proofs.Equal.{equal}
 
--- Message::index, Network::index, State::index and Event::index: the result is the number itself.
+-- Message::index and State::index: the result is the number itself.
 pub index : (number : ℕ) → Determines (λ (r : ℕ). r ≡ number)
 index number = equal _

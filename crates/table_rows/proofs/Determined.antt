@@ -1,4 +1,4 @@
--- The public contract determines what the function gives back: a row is below 2 ^ 32.
+-- Each contract of this crate leaves one answer; of rows that are below 2 ^ 32.
 use Prim.Native.Nat.{_<_}
 use mathlib.Core.Logic.{_⊎_, inl, inr}
 use Rattle.rows.proofs.Determined.{words-one}

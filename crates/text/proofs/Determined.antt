@@ -22,7 +22,7 @@ find-determined text b from to = equal _
 pub count-determined : (text : List ℕ) (b : ℕ) → Determines (λ (r : ℕ). r ≡ howMany b text)
 count-determined text b = equal _
 
--- a text at the front, `put`, and `put_number` of `decimals`
+-- a text at the front, of `put`
 pub wrote-determined : (text old : List ℕ) → DeterminesLent (Wrote text old)
 wrote-determined text old new₁ new₂ r s v w = (equal _ r s (v .count) (w .count), equal _ new₁ new₂ (v .bytes) (w .bytes))
 

@@ -1,4 +1,4 @@
--- `cases::first_of` is safe and ends. Assumes nothing.
+-- `cases::first_of` is safe and ends.
 use native.Mathlib.Omega.{arith}
 use borrow.Author.Needs.{needs}
 use Rattle.cases.proofs.first_of.Statement.{statement}

@@ -1,4 +1,4 @@
--- `cases::goes_on_with` is safe and ends. The measure is what is left of the word. Assumes nothing.
+-- `cases::goes_on_with` is safe and ends. The measure is what is left of the word.
 use Prim.Native.Nat.{_≤_, _-_}
 use lib.ListN.{length}
 use native.Mathlib.Omega.{arith}

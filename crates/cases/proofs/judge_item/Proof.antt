@@ -1,4 +1,4 @@
--- `cases::judge_item` is safe and ends. Assumes nothing.
+-- `cases::judge_item` is safe and ends.
 use borrow.Author.Needs.{needs}
 use Rattle.cases.proofs.judge_item.Statement.{statement}
 use Rattle.cases.proofs.judge_item.Tie as tie

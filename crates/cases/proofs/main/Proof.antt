@@ -1,4 +1,4 @@
--- `cases::main` is safe and ends. The measure is the number of items left. Assumes nothing.
+-- `cases::main` is safe and ends. The measure is the number of items left.
 use borrow.Author.Needs.{needs}
 use Rattle.cases.proofs.main.Statement.{statement}
 use Rattle.cases.proofs.main.Tie as tie

@@ -1,4 +1,4 @@
--- `cases::number` is safe and ends. The measure is the number of digits left. Assumes nothing.
+-- `cases::number` is safe and ends. The measure is the number of digits left.
 use Prim.Native.Nat.{_≤_}
 use borrow.Author.Needs.{needs}
 use Rattle.cases.proofs.number.Statement.{statement}

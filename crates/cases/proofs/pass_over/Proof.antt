@@ -1,4 +1,4 @@
--- `cases::pass_over` is safe and ends. The part that is lent is as long as its end says. Assumes nothing.
+-- `cases::pass_over` is safe and ends. The part that is lent is as long as its end says.
 use mathlib.Core.Path.{sym}
 use lib.Seq.{length-take-le}
 use borrow.Author.Needs.{needs}

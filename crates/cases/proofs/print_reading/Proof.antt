@@ -1,4 +1,4 @@
--- `cases::print_reading` is safe and ends. Assumes nothing.
+-- `cases::print_reading` is safe and ends.
 use borrow.Author.Needs.{needs}
 use Rattle.cases.proofs.print_reading.Statement.{statement}
 use Rattle.cases.proofs.print_reading.Tie as tie

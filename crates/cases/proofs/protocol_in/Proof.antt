@@ -1,4 +1,4 @@
--- `cases::protocol_in` is safe and ends, and its tables are those of a reading. Assumes nothing.
+-- `cases::protocol_in` is safe and ends, and its tables are those of a reading.
 use mathlib.Core.Path.{sym, subst}
 use Rattle.reading_laws.proofs.protocols.Accepted.{accepted-kept}
 use Rattle.cases.specs.Printable.{Printable}

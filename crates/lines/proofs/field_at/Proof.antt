@@ -1,4 +1,4 @@
--- `records::field_at` meets its contract.
+-- `lines::field_at` meets its contract.
 use native.Mathlib.Omega.{arith}
 use Rattle.lines.proofs.Fields.{few, at-field}
 use Rattle.lines.proofs.field_at.Statement.{statement}

@@ -1,4 +1,4 @@
--- `records::is_record` meets its contract.
+-- `lines::is_record` meets its contract.
 use native.Mathlib.Omega.{arith}
 use Rattle.lines.proofs.Fields.{some}
 use borrow.Author.Needs.{needs}

@@ -1,4 +1,4 @@
--- `records::word_at` meets its contract.
+-- `lines::word_at` meets its contract.
 use mathlib.Core.Path.{ap, _∙_}
 use mathlib.Core.List.{List}
 use Prim.Native.Nat.{ℕ}

@@ -1,4 +1,4 @@
--- The words of a message's type: what a field is found to say, from the comparisons with each word.
+-- The fixed words: what a field is found to say, from the comparisons with each word.
 use Prim.Native.Nat.{ℕ}
 use mathlib.Core.Path.{_≡_}
 use mathlib.Core.Bool.{true, false}
@@ -40,8 +40,6 @@ module _ (x : List ℕ) where
   says-no-kind a b c d = rw (a, b, c, d)
 
 -- ---- a state
-
--- ---- one field
 
 module _ (x : List ℕ) where
   pub says-cache : sameText x cacheWord ≡ true → IsController Cache ≡ foundController x

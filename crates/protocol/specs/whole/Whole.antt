@@ -26,10 +26,11 @@ unless r a = cond (eqb (r .number) 0) a (refused r)
 
 -- ---- the whole text: 12 and 13
 
--- The first cell that is refused by 13: "a stalled message in a state whose entries have no carrier".
+-- 13 NO_ENTRY of one cell: "a stalled message in a state whose entries have no carrier".
 abbrev pub hasNoEntry : List Cell → Cell → Bool
 hasNoEntry cells c = decide (no-entry? cells c)
 
+-- The first such cell, or the number of cells where there is none.
 unfoldable pub noEntryAt : Tables → ℕ
 noEntryAt t = firstIndex (hasNoEntry (cellsOf t)) (cellsOf t)
 

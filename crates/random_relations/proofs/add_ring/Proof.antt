@@ -1,4 +1,4 @@
--- `random_relations::add_ring` is safe and ends. The measure is what is left of the messages. Assumes nothing.
+-- `random_relations::add_ring` is safe and ends. The measure is what is left of the messages.
 use Prim.Native.Nat.{_≤_, _-_}
 use borrow.Author.Needs.{needs}
 use Rattle.random_relations.proofs.add_ring.Statement.{statement}

@@ -1,4 +1,4 @@
--- `random_relations::below` is safe and ends. The remainder by a bound that is not 0 lies below it. Assumes nothing.
+-- `random_relations::below` is safe and ends. The remainder by a bound that is not 0 lies below it.
 use native.Mathlib.Nat.{mod-lt}
 use native.Mathlib.Omega.{arith}
 use borrow.Author.Needs.{needs}

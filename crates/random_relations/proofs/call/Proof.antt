@@ -1,4 +1,4 @@
--- `random_relations::call` is safe and ends. Each part that is lent is as long as its end says. Assumes nothing.
+-- `random_relations::call` is safe and ends. Each part that is lent is as long as its end says.
 use mathlib.Core.Path.{sym}
 use lib.Seq.{length-take-le}
 use borrow.Author.Needs.{needs}

@@ -1,4 +1,4 @@
--- `random_relations::fill` is safe and ends. The measure is the number of pairs left. Assumes nothing.
+-- `random_relations::fill` is safe and ends. The measure is the number of pairs left.
 use borrow.Author.Needs.{needs}
 use Rattle.random_relations.proofs.fill.Statement.{statement}
 use Rattle.random_relations.proofs.fill.Tie as tie

@@ -1,4 +1,4 @@
--- `random_relations::main` is safe and ends. The measure is the number of turns left. Assumes nothing.
+-- `random_relations::main` is safe and ends. The measure is the number of turns left.
 use Prim.Native.Nat.{_≤_, _-_}
 use borrow.Author.Needs.{needs}
 use Rattle.random_relations.proofs.main.Statement.{statement}

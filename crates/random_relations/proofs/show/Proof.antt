@@ -1,4 +1,4 @@
--- `random_relations::show` is safe and ends. The output keeps its length; the measure is what is left of it. Assumes nothing.
+-- `random_relations::show` is safe and ends. The output keeps its length; the measure is what is left of it.
 use Prim.Native.Nat.{_≤_, _-_}
 use lib.ListN.{length, length-set}
 use native.Mathlib.Omega.{arith}

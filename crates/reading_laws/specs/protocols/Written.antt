@@ -104,16 +104,16 @@ ended (l ∷ ls) = (l ++ newline) ++ ended ls
 unfoldable pub protocolText : Tables → List ℕ
 protocolText t = ended (protocolHeader ∷ map tabbed (records t))
 
--- ---- what is known of it
+-- ---- what is known of it: what C-11 of 02-change-requests.md will ask of a writer, said of the texts and tables alone
 
--- "Reading an accepted text and writing it must return the same bytes."
+-- C-11: "reading an accepted text and writing it must return the same bytes".
 abbrev pub WrittenBack : Type 0
 WrittenBack = (x : List ℕ) → readProtocol x .refusal .number ≡ 0 → x ≡ protocolText (readProtocol x .tables)
 
--- "Reading what was written must return the same tables."
+-- C-11: "reading what was written must return the same tables".
 abbrev pub ReadAgain : Type 0
 ReadAgain = (x : List ℕ) → readProtocol x .refusal .number ≡ 0 → readProtocol (protocolText (readProtocol x .tables)) ≡ readProtocol x
 
--- "Two texts give the same tables only when they are the same text."
+-- So two texts give the same tables only when they are the same text.
 abbrev pub SameText : Type 0
 SameText = (x y : List ℕ) → readProtocol x .refusal .number ≡ 0 → readProtocol y .refusal .number ≡ 0 → readProtocol x .tables ≡ readProtocol y .tables → x ≡ y

@@ -1,4 +1,4 @@
--- `relations::relations` meets its contract. Assumes nothing.
+-- `relations::relations` meets its contract.
 use mathlib.Core.Path.{_≡_, sym, _∙_}
 use lib.ListN.{length}
 use borrow.Author.Needs.{needs}

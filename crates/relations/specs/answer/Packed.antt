@@ -13,7 +13,7 @@ pub record RelationsSmall (r : RelationsAnswer) : Type 0 where
   pub joins : r .joins < 65536
 
 -- "The returned numbers packed there into one of 64 bits: bits 0 to 7 the refusal number (0 on success), 8 to 15 the length,
--- 16 to 23 the least count, 24 to 31 the length needed, 32 to 47 the waits pairs"; and the number of row joins, "bits 48 to 63 for the C host".
+-- 16 to 23 the least count, 24 to 31 the length needed, 32 to 47 the waits pairs"; and by C-23 the number of row joins, "bits 48 to 63 for the C host".
 abbrev pub packedRelations : RelationsAnswer → ℕ
 packedRelations r = r .number + r .length * 256 + r .networks * 65536 + r .needed * 16777216 + r .pairs * 4294967296 + r .joins * 281474976710656
 

@@ -26,7 +26,7 @@ pub record Class2 (p : Relations) (bytes : List ℕ) (networks : ℕ) : Type 0 w
   pub cycle : PlanCycle p bytes
 
 -- The plan of n messages whose relations the rows of causes and stalls give. The lent bytes are `old` at entry and `new` at exit.
--- "Both also return the number of waits pairs", and "the number of row joins in closing causes", which "equals the definition's count".
+-- "Both also return the number of waits pairs", and by C-23 "the number of row joins in closing causes", which "equals the definition's count".
 pub record RelationsPlanned (n : ℕ) (causes stalls old new : List ℕ) (r : RelationsAnswer) : Type 0 where
   pub written : List ℕ
   pub wrote : Wrote written old new (r .length)

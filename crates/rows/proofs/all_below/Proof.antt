@@ -1,4 +1,4 @@
--- `rows::all_below` meets its contract. Assumes nothing.
+-- `rows::all_below` meets its contract.
 use borrow.Author.Needs.{needs}
 use Rattle.rows.proofs.Bits.{all-below}
 use Rattle.rows.proofs.all_below.Statement.{statement}

@@ -1,4 +1,4 @@
--- `rows::has` meets its contract. Assumes nothing.
+-- `rows::has` meets its contract.
 use borrow.Author.Tests.{eqb-true, eq-eqb}
 use borrow.Author.Needs.{needs}
 use Rattle.rows.proofs.has.Statement.{statement}

@@ -1,4 +1,4 @@
--- `rows::join` meets its contract. Assumes nothing.
+-- `rows::join` meets its contract.
 use Rattle.rows.proofs.Bits.{bit-or}
 use Rattle.rows.proofs.join.Statement.{statement}
 use Rattle.rows.proofs.join.Tie as tie

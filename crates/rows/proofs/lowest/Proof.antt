@@ -1,4 +1,4 @@
--- `rows::lowest` meets its contract. Assumes nothing.
+-- `rows::lowest` meets its contract.
 use native.Mathlib.Omega.{arith}
 use lib.Count.{trailing-le, leading-le}
 use Rattle.rows.proofs.Bits.{lowest-place}

@@ -1,4 +1,4 @@
--- `rows::meet` meets its contract. Assumes nothing.
+-- `rows::meet` meets its contract.
 use Rattle.rows.proofs.Bits.{bit-and}
 use Rattle.rows.proofs.meet.Statement.{statement}
 use Rattle.rows.proofs.meet.Tie as tie

@@ -1,4 +1,4 @@
--- `rows::ones` meets its contract. Assumes nothing.
+-- `rows::ones` meets its contract.
 use Rattle.rows.proofs.Bits.{ones-place}
 use Rattle.rows.proofs.ones.Statement.{statement}
 use Rattle.rows.proofs.ones.Tie as tie

@@ -1,4 +1,4 @@
--- `rows::with_bit` meets its contract. Assumes nothing.
+-- `rows::with_bit` meets its contract.
 use borrow.Author.Needs.{needs}
 use Rattle.rows.proofs.Bits.{bit-set}
 use Rattle.rows.proofs.with_bit.Statement.{statement}

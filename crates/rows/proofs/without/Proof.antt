@@ -1,4 +1,4 @@
--- `rows::without` meets its contract. Assumes nothing.
+-- `rows::without` meets its contract.
 use borrow.Author.Needs.{needs}
 use Rattle.rows.proofs.Bits.{clear-place, shifted-le}
 use Rattle.rows.proofs.without.Statement.{statement}

@@ -1,4 +1,4 @@
--- `waits::clear` meets its contract. Assumes nothing.
+-- `waits::clear` meets its contract.
 use Prim.Native.Nat.{_-_}
 use mathlib.Core.Path.{refl}
 use native.Mathlib.Omega.{arith}

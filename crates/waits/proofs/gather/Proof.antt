@@ -1,4 +1,4 @@
--- `waits::gather` meets its contract. Assumes nothing.
+-- `waits::gather` meets its contract.
 use Prim.Native.Nat.{_-_}
 use mathlib.Core.Path.{_∙_}
 use native.Mathlib.Omega.{arith}

@@ -1,4 +1,4 @@
--- `waits::pairs` meets its contract. Assumes nothing.
+-- `waits::pairs` meets its contract.
 use Prim.Native.Nat.{_-_}
 use native.Mathlib.Omega.{arith}
 use borrow.Author.Needs.{needs}

@@ -1,4 +1,4 @@
--- `waits::spread` meets its contract. Assumes nothing.
+-- `waits::spread` meets its contract.
 use native.Mathlib.Omega.{arith}
 use native.Mathlib.Nat.{pos-of-ne-zero}
 use borrow.Author.Needs.{needs}

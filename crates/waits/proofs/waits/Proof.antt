@@ -1,4 +1,4 @@
--- `waits::waits` meets its contract. Assumes nothing.
+-- `waits::waits` meets its contract.
 use borrow.Author.Needs.{needs}
 use Rattle.waits.proofs.Waiting.{waits-of}
 use Rattle.waits.proofs.waits.Statement.{statement}

@@ -1,4 +1,4 @@
--- `walks::into` meets its contract. Assumes nothing.
+-- `walks::into` meets its contract.
 use Prim.Native.Nat.{_-_, _<_, _^_}
 use mathlib.Core.Logic.{⊎-elim}
 use native.Mathlib.Omega.{arith}

@@ -1,4 +1,4 @@
--- `refused_text::more_tabbed` meets its contract.
+-- `answers::refused_text::more_tabbed` meets its contract.
 use borrow.Author.Needs.{needs}
 use Rattle.answers.proofs.refused_text.RefusedLaws.{tab-room, digits-room, tabbed}
 use Rattle.answers.proofs.refused_text.more_tabbed.Statement.{statement}

@@ -1,4 +1,4 @@
--- `places::event_at` meets its contract.
+-- `cells::places::event_at` meets its contract.
 use lib.ListN.{take}
 use Rattle.text.specs.Parts.{firstIndex}
 use Rattle.tables.specs.names.Names.{eventNamed}

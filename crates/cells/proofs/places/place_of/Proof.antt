@@ -1,4 +1,4 @@
--- `places::place_of` meets its contract.
+-- `cells::places::place_of` meets its contract.
 use Prim.Native.Nat.{ℕ}
 use mathlib.Core.Path.{refl, ap, subst, _∙_}
 use mathlib.Core.List.{List}

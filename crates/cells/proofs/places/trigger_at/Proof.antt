@@ -1,4 +1,4 @@
--- `places::trigger_at` meets its contract.
+-- `cells::places::trigger_at` meets its contract.
 use mathlib.Core.Path.{sym, subst}
 use Rattle.tables.specs.declared.Controller.{Controller}
 use Rattle.cells.specs.declared.places.FoundTrigger.the-variants.{Nothing}

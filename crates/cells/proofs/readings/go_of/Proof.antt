@@ -1,4 +1,4 @@
--- `go_cells::go_of` meets its contract.
+-- `cells::readings::go_of` meets its contract.
 use borrow.Author.Tests.{not-true, not-false}
 use Rattle.text.specs.Parts.{split}
 use Rattle.cells.proofs.shapes.Shapes.{count-short}

@@ -1,4 +1,4 @@
--- `stall_cells::in_stable` meets its contract.
+-- `cells::readings::in_stable` meets its contract.
 use lib.ListN.{length}
 use mathlib.Core.Path.{_≡_}
 use Rattle.tables.specs.declared.Stability.the-variants.{Stable, Transient}

@@ -1,4 +1,4 @@
--- `stall_cells::stall_of` meets its contract.
+-- `cells::readings::stall_of` meets its contract.
 use borrow.Author.Tests.{not-true, not-false}
 use Rattle.text.specs.Parts.{split}
 use Rattle.cells.proofs.shapes.Shapes.{count-short}

@@ -1,4 +1,4 @@
--- `readings::unread` meets its contract.
+-- `cells::readings::unread` meets its contract.
 use Rattle.cells.proofs.readings.Whole.{unread-is}
 use borrow.Author.Needs.{needs}
 use Rattle.cells.proofs.readings.unread.Statement.{statement}

@@ -1,4 +1,4 @@
--- `cell_shapes::shape_of` meets its contract.
+-- `cells::shapes::shape_of` meets its contract.
 use mathlib.Core.Path.{sym, _∙_}
 use Rattle.text.specs.Parts.{split}
 use Rattle.lines.proofs.Fields.{counted}

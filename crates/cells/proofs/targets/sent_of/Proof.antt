@@ -1,4 +1,4 @@
--- `targets::sent_of` meets its contract.
+-- `cells::targets::sent_of` meets its contract.
 use Prim.Native.Nat.{ℕ, _-_, _≤_}
 use mathlib.Core.Path.{refl, sym, ap, _∙_}
 use mathlib.Core.List.{List, []}

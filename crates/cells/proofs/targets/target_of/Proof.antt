@@ -1,4 +1,4 @@
--- `targets::target_of` meets its contract.
+-- `cells::targets::target_of` meets its contract.
 use Prim.Native.Nat.{ℕ}
 use mathlib.Core.Path.{refl, ap, _∙_}
 use mathlib.Core.List.{List}

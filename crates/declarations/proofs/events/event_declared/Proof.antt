@@ -1,4 +1,4 @@
--- `event_lines::event_declared` meets its contract.
+-- `declarations::events::event_declared` meets its contract.
 use mathlib.Core.Path.{sym, _∙_}
 use Rattle.declarations.proofs.events.Named.{event-found, event-missing}
 use borrow.Author.Needs.{needs}

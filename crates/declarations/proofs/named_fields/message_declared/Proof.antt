@@ -1,4 +1,4 @@
--- `declared_messages::message_declared` meets its contract.
+-- `declarations::named_fields::message_declared` meets its contract.
 use mathlib.Core.Path.{sym, _∙_}
 use Rattle.declarations.proofs.named_fields.Named.{message-found, message-missing}
 use borrow.Author.Needs.{needs}

@@ -1,4 +1,4 @@
--- `named_fields::name_at` meets its contract.
+-- `declarations::named_fields::name_at` meets its contract.
 use native.Mathlib.Omega.{arith}
 use mathlib.Core.Path.{ap, _∙_}
 use lib.ListN.{length}

@@ -1,4 +1,4 @@
--- `named_fields::name_fits` meets its contract.
+-- `declarations::named_fields::name_fits` meets its contract.
 use mathlib.Core.Path.{ap, _∙_}
 use borrow.Author.Needs.{needs}
 use Rattle.text.specs.Name.{nameRule}

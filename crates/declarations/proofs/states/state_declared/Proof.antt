@@ -1,4 +1,4 @@
--- `state_lines::state_declared` meets its contract.
+-- `declarations::states::state_declared` meets its contract.
 use mathlib.Core.Path.{sym, _∙_}
 use Rattle.declarations.proofs.states.Named.{state-found, state-missing}
 use borrow.Author.Needs.{needs}

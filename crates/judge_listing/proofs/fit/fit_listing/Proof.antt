@@ -1,4 +1,4 @@
--- `fit::fit_listing` meets its contract.
+-- `judge_listing::fit::fit_listing` meets its contract.
 use mathlib.Core.Path.{refl}
 use Prim.Native.Nat.{_≤_}
 use lib.ListN.{length}

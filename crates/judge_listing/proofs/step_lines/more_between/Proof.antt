@@ -1,4 +1,4 @@
--- `step_lines::more_between` meets its contract.
+-- `judge_listing::step_lines::more_between` meets its contract.
 use mathlib.Core.List.{List, _++_}
 use Prim.Native.Nat.{ℕ, _+_, _≤_}
 use lib.ListN.{length, length-append}

@@ -1,4 +1,4 @@
--- `step_lines::more_word` meets its contract.
+-- `judge_listing::step_lines::more_word` meets its contract.
 use mathlib.Core.Path.{subst}
 use mathlib.Core.Bool.{Bool}
 use Prim.Native.Nat.{_+_, _≤_}

@@ -1,4 +1,4 @@
--- `step_lines::put_step` meets its contract.
+-- `judge_listing::step_lines::put_step` meets its contract.
 use mathlib.Core.List.{List, _++_}
 use Prim.Native.Nat.{ℕ, _≤_}
 use lib.ListN.{length}

@@ -1,4 +1,4 @@
--- `step_lines::step_length` meets its contract.
+-- `judge_listing::step_lines::step_length` meets its contract.
 use Prim.Native.Nat.{_≤_}
 use lib.ListN.{length}
 use native.Mathlib.Omega.{arith}

@@ -1,4 +1,4 @@
--- `step_lines::word_length` meets its contract.
+-- `judge_listing::step_lines::word_length` meets its contract.
 use mathlib.Core.Path.{ap}
 use mathlib.Core.Bool.{Bool}
 use lib.ListN.{length}

@@ -1,4 +1,4 @@
--- `late_lines::message_shaped` meets its contract.
+-- `lines::misplaced::message_shaped` meets its contract.
 use mathlib.Core.Path.{sym, _∙_}
 use Rattle.lines.proofs.shapes.Shaped.{message-is, message-nothing}
 use borrow.Author.Needs.{needs}

@@ -1,4 +1,4 @@
--- `late_lines::state_shaped` meets its contract.
+-- `lines::misplaced::state_shaped` meets its contract.
 use mathlib.Core.Path.{sym, _∙_}
 use Rattle.lines.proofs.shapes.Shaped.{state-is, state-nothing}
 use borrow.Author.Needs.{needs}

@@ -1,4 +1,4 @@
--- `lines::next_line` meets its contract.
+-- `lines::next::next_line` meets its contract.
 use Prim.Native.Nat.{_≤_, _<_}
 use native.Mathlib.Omega.{arith}
 use lib.ListN.{length}

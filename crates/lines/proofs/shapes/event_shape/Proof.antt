@@ -1,4 +1,4 @@
--- `shapes::event_shape` meets its contract.
+-- `lines::shapes::event_shape` meets its contract.
 use native.Mathlib.Omega.{arith}
 use Rattle.lines.proofs.shapes.Counts.{count-same}
 use Rattle.lines.proofs.shapes.event_shape.Statement.{statement}

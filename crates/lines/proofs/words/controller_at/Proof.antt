@@ -1,4 +1,4 @@
--- `state_words::controller_at` meets its contract.
+-- `lines::words::controller_at` meets its contract.
 use Rattle.lines.proofs.words.Words.{says-cache, says-dir, says-no-controller}
 use mathlib.Core.Path.{sym, _∙_}
 use borrow.Author.Needs.{needs}

@@ -1,4 +1,4 @@
--- `kinds::kind_at` meets its contract.
+-- `lines::words::kind_at` meets its contract.
 use Rattle.lines.proofs.words.Words.{says-req, says-fwd, says-data, says-ctl, says-no-kind}
 use mathlib.Core.Path.{sym, _∙_}
 use borrow.Author.Needs.{needs}

@@ -1,4 +1,4 @@
--- `state_words::stability_at` meets its contract.
+-- `lines::words::stability_at` meets its contract.
 use Rattle.lines.proofs.words.Words.{says-stable, says-transient, says-no-stability}
 use mathlib.Core.Path.{sym, _∙_}
 use borrow.Author.Needs.{needs}

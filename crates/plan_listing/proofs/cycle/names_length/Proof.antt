@@ -1,4 +1,4 @@
--- `cycle::names_length` meets its contract.
+-- `plan_listing::cycle::names_length` meets its contract.
 use mathlib.Core.Path.{_≡_, refl, ap, _∙_}
 use Prim.Native.Nat.{ℕ, _-_, _*_, _≤_, _<_}
 use lib.ListN.{length}

@@ -1,4 +1,4 @@
--- `cycle::put_cycle` meets its contract.
+-- `plan_listing::cycle::put_cycle` meets its contract.
 use mathlib.Core.List.{List, _++_}
 use Prim.Native.Nat.{ℕ, _+_, _-_, _≤_}
 use lib.ListN.{length, take, drop}

@@ -1,4 +1,4 @@
--- `cycle::put_name` meets its contract.
+-- `plan_listing::cycle::put_name` meets its contract.
 use Rattle.text.specs.Name.{nameText}
 use Rattle.text.specs.Words.{tab}
 use Rattle.text.proofs.Written.{more-room, then-more}

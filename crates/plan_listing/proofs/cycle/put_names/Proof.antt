@@ -1,4 +1,4 @@
--- `cycle::put_names` meets its contract.
+-- `plan_listing::cycle::put_names` meets its contract.
 use mathlib.Core.Path.{_≡_, refl, subst}
 use mathlib.Core.List.{_++_}
 use Prim.Native.Nat.{ℕ, _+_, _-_, _≤_, _<_}

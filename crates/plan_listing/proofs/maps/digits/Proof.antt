@@ -1,4 +1,4 @@
--- `maps::digits` meets its contract.
+-- `plan_listing::maps::digits` meets its contract.
 use mathlib.Core.Path.{sym}
 use native.Mathlib.Omega.{arith}
 use Rattle.plan_listing.proofs.Lines.{digits-one, digits-two, digits-three}

@@ -1,4 +1,4 @@
--- `maps::map_length` meets its contract.
+-- `plan_listing::maps::map_length` meets its contract.
 use mathlib.Core.Path.{sym, _∙_}
 use Prim.Native.Nat.{_≤_}
 use lib.ListN.{length, length-take, length-map}

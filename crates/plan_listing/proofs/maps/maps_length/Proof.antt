@@ -1,4 +1,4 @@
--- `maps::maps_length` meets its contract.
+-- `plan_listing::maps::maps_length` meets its contract.
 use mathlib.Core.Path.{_≡_, ap, _∙_}
 use Prim.Native.Nat.{ℕ, _-_, _*_, _≤_}
 use lib.ListN.{length}

@@ -1,4 +1,4 @@
--- `maps::put_map` meets its contract.
+-- `plan_listing::maps::put_map` meets its contract.
 use mathlib.Core.List.{List, _++_}
 use Prim.Native.Nat.{ℕ, _≤_}
 use lib.ListN.{length}

@@ -1,4 +1,4 @@
--- `maps::put_maps` meets its contract.
+-- `plan_listing::maps::put_maps` meets its contract.
 use mathlib.Core.Path.{_≡_, refl, subst}
 use mathlib.Core.List.{_++_}
 use Prim.Native.Nat.{ℕ, _+_, _-_, _≤_}

@@ -1,4 +1,4 @@
--- `cell_section::read_cells` meets its contract.
+-- `protocol::sections::read_cells` meets its contract.
 use Prim.Native.Nat.{_-_, _<_}
 use mathlib.Core.Path.{refl, sym, _∙_}
 use borrow.Author.Needs.{needs}

@@ -1,4 +1,4 @@
--- `event_section::read_events` meets its contract.
+-- `protocol::sections::read_events` meets its contract.
 use Prim.Native.Nat.{_-_, _<_}
 use mathlib.Core.Path.{refl, sym, _∙_}
 use borrow.Author.Needs.{needs}

@@ -1,4 +1,4 @@
--- `whole::refused_at` meets its contract.
+-- `protocol::whole::refused_at` meets its contract.
 use borrow.Author.Needs.{needs}
 use Rattle.protocol.proofs.whole.refused_at.Statement.{statement}
 use Rattle.protocol.proofs.whole.refused_at.Tie as tie

@@ -1,4 +1,4 @@
--- `answer::packed` meets its contract: each step is found by the search. The file is there so that a wrong step is told by its name.
+-- `relations::answer::packed` meets its contract: each step is found by the search. The file is there so that a wrong step is told by its name.
 use borrow.Author.Needs.{needs}
 use Rattle.relations.proofs.answer.packed.Statement.{statement}
 use Rattle.relations.proofs.answer.packed.Tie as tie

@@ -1,4 +1,4 @@
--- `checks::first_check` meets its contract. Assumes nothing.
+-- `relations::checks::first_check` meets its contract.
 use mathlib.Core.Path.{_≡_, sym, _∙_}
 use mathlib.Core.Bool.{false}
 use borrow.Author.Needs.{needs}

@@ -1,4 +1,4 @@
--- `checks::refusal` meets its contract. Assumes nothing.
+-- `relations::checks::refusal` meets its contract.
 use mathlib.Core.Path.{refl}
 use borrow.Author.Tests.{eq-eqb, ne-eqb}
 use Rattle.relations.specs.checks.CallChecks.{refusedRelations}

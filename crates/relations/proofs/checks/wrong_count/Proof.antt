@@ -1,4 +1,4 @@
--- `checks::wrong_count` meets its contract. Assumes nothing.
+-- `relations::checks::wrong_count` meets its contract.
 use mathlib.Core.Path.{sym}
 use borrow.Author.Needs.{needs}
 use Rattle.relations.proofs.checks.Passing.{count-zero, count-above, count-causes, count-stalls}

@@ -1,4 +1,4 @@
--- `plans::plan_rows` meets its contract. Assumes nothing.
+-- `relations::plans::plan_rows` meets its contract.
 use borrow.Author.Needs.{needs}
 use Rattle.relations.proofs.plans.Plans.{ranked, cycled}
 use Rattle.relations.proofs.plans.plan_rows.Statement.{statement}

@@ -1,4 +1,4 @@
--- `plans::plan_tables` meets its contract. Assumes nothing.
+-- `relations::plans::plan_tables` meets its contract.
 use native.Mathlib.Omega.{arith}
 use lib.ListN.{length}
 use borrow.Author.Needs.{needs}

@@ -1,4 +1,4 @@
--- `row_bytes::load` meets its contract. Assumes nothing.
+-- `relations::row_bytes::load` meets its contract.
 use Prim.Native.Nat.{_-_}
 use native.Mathlib.Omega.{arith}
 use Rattle.rows.proofs.FillingRows.{FillingRows, fill-start}

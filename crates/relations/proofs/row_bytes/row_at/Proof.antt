@@ -1,4 +1,4 @@
--- `row_bytes::row_at` meets its contract. Assumes nothing.
+-- `relations::row_bytes::row_at` meets its contract.
 use Prim.Native.Nat.{_*_}
 use native.Mathlib.Omega.{arith}
 use borrow.Author.Needs.{needs}

@@ -1,4 +1,4 @@
--- `row_bytes::stray` meets its contract. Assumes nothing.
+-- `relations::row_bytes::stray` meets its contract.
 use Prim.Native.Nat.{_-_, _<_, _^_}
 use native.Mathlib.Omega.{arith}
 use borrow.Author.Needs.{needs}

@@ -1,4 +1,4 @@
--- `closure::closure` meets its contract. Assumes nothing.
+-- `rows::closure::closure` meets its contract.
 use Prim.Native.Nat.{_-_}
 use native.Mathlib.Omega.{arith}
 use Rattle.rows.proofs.closure.Warshall.{CloseInv, close-start, close-step, close-end, close-small, holders-few}

@@ -1,4 +1,4 @@
--- `closure::joined` meets its contract. Assumes nothing.
+-- `rows::closure::joined` meets its contract.
 use borrow.Author.Needs.{needs}
 use Rattle.rows.proofs.Told.{told-false}
 use Rattle.rows.proofs.closure.Warshall.{joined-yes, joined-no, counted-yes, counted-no}

@@ -1,4 +1,4 @@
--- `closure::round` meets its contract. Assumes nothing.
+-- `rows::closure::round` meets its contract.
 use Prim.Native.Nat.{_-_}
 use mathlib.Core.Path.{refl}
 use native.Mathlib.Omega.{arith}

@@ -1,4 +1,4 @@
--- `carrying::carrier_rows` meets its contract.
+-- `table_rows::carriers::carrier_rows` meets its contract.
 use Prim.Native.Nat.{_≤_, _-_}
 use mathlib.Core.Path.{_≡_, sym, _∙_}
 use native.Mathlib.Omega.{arith}

@@ -1,4 +1,4 @@
--- `carrying::carriers` meets its contract.
+-- `table_rows::carriers::carriers` meets its contract.
 use Prim.Native.Nat.{_<_}
 use mathlib.Core.Path.{subst}
 use Rattle.tables.specs.Cells.{TriggerOk}

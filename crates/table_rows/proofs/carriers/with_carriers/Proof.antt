@@ -1,4 +1,4 @@
--- `carrying::with_carriers` meets its contract.
+-- `table_rows::carriers::with_carriers` meets its contract.
 use Prim.Native.Nat.{_<_}
 use mathlib.Core.Path.{_≡_, subst}
 use native.Mathlib.Omega.{arith}

@@ -1,4 +1,4 @@
--- `causing::causes_rows` meets its contract.
+-- `table_rows::causes::causes_rows` meets its contract.
 use Prim.Native.Nat.{_≤_, _-_}
 use mathlib.Core.Path.{_≡_, sym, _∙_}
 use native.Mathlib.Omega.{arith}

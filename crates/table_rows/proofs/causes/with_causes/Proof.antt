@@ -1,4 +1,4 @@
--- `causing::with_causes` meets its contract.
+-- `table_rows::causes::with_causes` meets its contract.
 use Prim.Native.Nat.{_<_}
 use mathlib.Core.Path.{_≡_, subst}
 use native.Mathlib.Omega.{arith}

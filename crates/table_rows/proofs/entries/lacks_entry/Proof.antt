@@ -1,4 +1,4 @@
--- `entries::lacks_entry` meets its contract.
+-- `table_rows::entries::lacks_entry` meets its contract.
 use native.Mathlib.Omega.{arith}
 use Rattle.rows.specs.Rows.{Bit}
 use Rattle.table_rows.proofs.entries.AtCell.{answer-no, answer-empty, go-no-entry, event-no-entry, message-no-entry}

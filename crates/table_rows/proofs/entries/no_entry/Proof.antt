@@ -1,4 +1,4 @@
--- `entries::no_entry` meets its contract.
+-- `table_rows::entries::no_entry` meets its contract.
 use Prim.Native.Nat.{ℕ, _≤_, _<_, _-_}
 use mathlib.Core.Path.{_≡_, sym, subst, _∙_}
 use mathlib.Core.Bool.{true}

@@ -1,4 +1,4 @@
--- `sending::sent_row` meets its contract.
+-- `table_rows::sent::sent_row` meets its contract.
 use Rattle.table_rows.proofs.sent.AtCell.{sent-in}
 use lib.ListN.{length-map}
 use Prim.Native.Nat.{ℕ, _≤_, _<_, _-_}

@@ -1,4 +1,4 @@
--- `conflicts::any_clash` meets its contract.
+-- `tables::conflicts::any_clash` meets its contract.
 use Prim.Native.Nat.{_≤_, _-_}
 use mathlib.Core.Path.{_≡_, sym, _∙_}
 use mathlib.Core.Bool.{false}

@@ -1,4 +1,4 @@
--- `conflicts::clash` meets its contract.
+-- `tables::conflicts::clash` meets its contract.
 use borrow.Author.Tests.{eq-eqb, ne-eqb, not-true, not-false}
 use borrow.Author.Needs.{needs}
 use Rattle.tables.proofs.conflicts.clash.Statement.{statement}

@@ -1,4 +1,4 @@
--- `conflicts::same_trigger` meets its contract.
+-- `tables::conflicts::same_trigger` meets its contract.
 use borrow.Author.Needs.{needs}
 use Rattle.tables.proofs.conflicts.same_trigger.Statement.{statement}
 use Rattle.tables.proofs.conflicts.same_trigger.Tie as tie

@@ -1,4 +1,4 @@
--- `names::event_named` meets its contract.
+-- `tables::names::event_named` meets its contract.
 use Rattle.tables.specs.declared.names.FoundEvent.the-variants.{At as EventAt, Nothing as NoEvent}
 use mathlib.Core.Path.{_≡_, sym, _∙_}
 use mathlib.Core.Bool.{false}

@@ -1,4 +1,4 @@
--- `names::message_named` meets its contract.
+-- `tables::names::message_named` meets its contract.
 use Rattle.tables.specs.declared.names.FoundMessage.the-variants.{At as MessageAt, Nothing as NoMessage}
 use mathlib.Core.Path.{_≡_, sym, _∙_}
 use mathlib.Core.Bool.{false}

@@ -1,4 +1,4 @@
--- `state_names::state_has` meets its contract.
+-- `tables::names::state_has` meets its contract.
 use mathlib.Core.Path.{sym, ap, _∙_}
 use mathlib.Core.Bool.{Bool, _&&_}
 use borrow.Author.Tests.{not-true, not-false}

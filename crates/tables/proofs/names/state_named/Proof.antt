@@ -1,4 +1,4 @@
--- `state_names::state_named` meets its contract.
+-- `tables::names::state_named` meets its contract.
 use Rattle.tables.specs.declared.names.FoundState.the-variants.{At as StateAt, Nothing as NoState}
 use mathlib.Core.Path.{_≡_, sym, _∙_}
 use mathlib.Core.Bool.{false}

@@ -1,4 +1,4 @@
--- `fields::fields_of` meets its contract.
+-- `text::line_fields::fields_of` meets its contract.
 use mathlib.Core.Logic.{inl, inr}
 use Prim.Native.Nat.{_-_}
 use native.Mathlib.Omega.{arith}

@@ -1,4 +1,4 @@
--- `name_rule::is_name` meets its contract.
+-- `text::names::is_name` meets its contract.
 use mathlib.Core.Path.{_≡_, refl, sym, _∙_}
 use Prim.Native.Nat.{_≤_, _-_}
 use lib.ListN.{length, drop}

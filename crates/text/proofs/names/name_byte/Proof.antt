@@ -1,4 +1,4 @@
--- `name_rule::name_byte` meets its contract.
+-- `text::names::name_byte` meets its contract.
 use mathlib.Core.Logic.{inl, inr, ⊎-elim}
 use Prim.Native.Nat.{_≤_}
 use native.Mathlib.Nat.{eq-or-lt-of-le}

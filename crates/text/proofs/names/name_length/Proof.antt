@@ -1,4 +1,4 @@
--- `naming::name_length` meets its contract.
+-- `text::names::name_length` meets its contract.
 use mathlib.Core.Path.{_≡_, sym, _∙_}
 use lib.ListN.{length, length-take, length-map}
 use native.Mathlib.Omega.{arith}

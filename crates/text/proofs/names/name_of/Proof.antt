@@ -1,4 +1,4 @@
--- `naming::name_of` meets its contract.
+-- `text::names::name_of` meets its contract.
 use mathlib.Core.Path.{refl}
 use native.Mathlib.Omega.{arith}
 use borrow.Author.Needs.{needs}

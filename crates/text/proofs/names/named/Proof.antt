@@ -1,4 +1,4 @@
--- `naming::named` meets its contract.
+-- `text::names::named` meets its contract.
 use mathlib.Core.Path.{sym, ap, _∙_}
 use mathlib.Core.List.{List}
 use Prim.Native.Nat.{ℕ}

@@ -1,4 +1,4 @@
--- `naming::no_name` meets its contract.
+-- `text::names::no_name` meets its contract.
 use mathlib.Core.Path.{refl}
 use Rattle.text.specs.Name.{nameOf}
 use Rattle.text.proofs.names.no_name.Statement.{statement}

@@ -1,4 +1,4 @@
--- `decimals::put_number` meets its contract.
+-- `text::writers::put_number` meets its contract.
 use mathlib.Core.Path.{_≡_, sym, ap}
 use lib.ListN.{length, length-set}
 use Rattle.text.specs.Written.{decimal}

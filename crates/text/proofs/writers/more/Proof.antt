@@ -1,4 +1,4 @@
--- `writers::more` meets its contract.
+-- `text::writers::more` meets its contract.
 use Rattle.text.proofs.Written.{pasted-part}
 use borrow.Author.Needs.{needs}
 use Rattle.text.proofs.writers.more.Statement.{statement}

@@ -1,4 +1,4 @@
--- `writers::more_name` meets its contract.
+-- `text::writers::more_name` meets its contract.
 use mathlib.Core.Path.{subst}
 use mathlib.Core.List.{List}
 use Prim.Native.Nat.{ℕ}

@@ -1,4 +1,4 @@
--- `writers::more_number` meets its contract.
+-- `text::writers::more_number` meets its contract.
 use Rattle.text.specs.Written.{decimal}
 use Rattle.text.proofs.Written.{pasted-part}
 use borrow.Author.Needs.{needs}

@@ -1,4 +1,4 @@
--- `judgement::judge_of` meets its contract.
+-- `verdicts::judgement::judge_of` meets its contract.
 use mathlib.Core.Path.{refl}
 use Rattle.tables.specs.Cells.{relationsOfTables}
 use borrow.Author.Needs.{needs}

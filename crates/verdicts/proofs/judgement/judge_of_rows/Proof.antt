@@ -1,4 +1,4 @@
--- `judgement::judge_of_rows` meets its contract.
+-- `verdicts::judgement::judge_of_rows` meets its contract.
 use borrow.Author.Needs.{needs}
 use Rattle.verdicts.proofs.judgement.Verdict.{judged}
 use Rattle.verdicts.proofs.judgement.judge_of_rows.Statement.{statement}

@@ -1,4 +1,4 @@
--- `steps::queues_row` meets its contract. Assumes nothing.
+-- `waits::steps::queues_row` meets its contract.
 use Prim.Native.Nat.{_-_, _≤_, _<_, _^_}
 use native.Mathlib.Omega.{arith}
 use Rattle.waits.specs.steps.Steps.{mappingOf}

@@ -1,4 +1,4 @@
--- `steps::stalled_of` meets its contract. Assumes nothing.
+-- `waits::steps::stalled_of` meets its contract.
 use Prim.Native.Nat.{_-_, _<_, _^_}
 use native.Mathlib.Omega.{arith}
 use borrow.Author.Needs.{needs}

@@ -1,4 +1,4 @@
--- `steps::steps_of` meets its contract. Assumes nothing.
+-- `waits::steps::steps_of` meets its contract.
 use Prim.Native.Nat.{_-_}
 use native.Mathlib.Omega.{arith}
 use lib.ListN.{replicate}

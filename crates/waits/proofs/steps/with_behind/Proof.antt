@@ -1,4 +1,4 @@
--- `steps::with_behind` meets its contract. Assumes nothing.
+-- `waits::steps::with_behind` meets its contract.
 use borrow.Author.Needs.{needs}
 use borrow.Author.Tests.{not-true, not-false}
 use Rattle.waits.specs.steps.Steps.{mappingOf}

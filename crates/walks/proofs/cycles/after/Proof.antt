@@ -1,4 +1,4 @@
--- `cycles::after` meets its contract. Assumes nothing.
+-- `walks::cycles::after` meets its contract.
 use Prim.Native.Nat.{_<_}
 use native.Mathlib.Nat.{pos-of-ne-zero}
 use native.Mathlib.Omega.{arith}

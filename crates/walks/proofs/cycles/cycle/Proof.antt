@@ -1,4 +1,4 @@
--- `cycles::cycle` meets its contract. Assumes nothing.
+-- `walks::cycles::cycle` meets its contract.
 use Prim.Native.Nat.{_-_}
 use mathlib.Core.Logic.{⊎-elim}
 use native.Mathlib.Omega.{arith}

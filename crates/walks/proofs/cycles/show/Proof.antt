@@ -1,4 +1,4 @@
--- `cycles::show` meets its contract. Assumes nothing.
+-- `walks::cycles::show` meets its contract.
 use Prim.Native.Nat.{_-_, _<_}
 use mathlib.Core.Path.{_∙_}
 use native.Mathlib.Nat.{pos-of-ne-zero}

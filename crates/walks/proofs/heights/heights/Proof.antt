@@ -1,4 +1,4 @@
--- `heights::heights` meets its contract. Assumes nothing.
+-- `walks::heights::heights` meets its contract.
 use native.Mathlib.Omega.{arith}
 use borrow.Author.Needs.{needs}
 use Rattle.walks.proofs.heights.Levels.{in-first, sinks, heights-some, heights-none}

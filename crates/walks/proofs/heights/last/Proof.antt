@@ -1,4 +1,4 @@
--- `heights::last` meets its contract. Assumes nothing.
+-- `walks::heights::last` meets its contract.
 use Prim.Native.Nat.{_-_}
 use native.Mathlib.Omega.{arith}
 use Rattle.rows.proofs.Told.{told-false}

@@ -1,4 +1,4 @@
--- `heights::rounds` meets its contract. Assumes nothing.
+-- `walks::heights::rounds` meets its contract.
 use Prim.Native.Nat.{_-_}
 use native.Mathlib.Omega.{arith}
 use borrow.Author.Needs.{needs}

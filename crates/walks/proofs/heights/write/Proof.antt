@@ -1,4 +1,4 @@
--- `heights::write` meets its contract. Assumes nothing.
+-- `walks::heights::write` meets its contract.
 use Prim.Native.Nat.{_-_}
 use native.Mathlib.Omega.{arith}
 use Rattle.walks.proofs.heights.Levels.{WriteInv, write-start, write-step, write-end}
