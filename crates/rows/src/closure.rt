@@ -9,12 +9,12 @@ ghost use Rattle.rows.specs.Joins.{joins};
 struct Turn {
     // the row after it
     row: u32,
-    // the joins counted so far
-    count: usize,
+    // the joins counted so far, as wide as a row, so that both are worked out side by side
+    count: u32,
 }
 
 // The turn of one row: if it has bit k it takes in the other, and a join is counted.
-fn joined(row: u32, other: u32, k: usize, count: usize) -> Turn
+fn joined(row: u32, other: u32, k: usize, count: u32) -> Turn
     requires { ⌜ (k < 32) × (count < 32) ⌝ }
     ensures { λ r. ⌜ Joined row other k (r .row) ⌝ }
     ensures { λ r. ⌜ Counted row k count (r .count) ⌝ }
@@ -34,13 +34,13 @@ fn joined(row: u32, other: u32, k: usize, count: usize) -> Turn
 }
 
 // Each of the first n rows takes in row k if it has bit k; gives how many did.
-fn round(t: &mut [u32], n: usize, k: usize) -> usize
+fn round(t: &mut [u32], n: usize, k: usize) -> u32
     requires { ⌜ (n ≤ 32) × (k < n) × (n ≤ length (now t)) ⌝ }
     ensures { λ _. ⌜ Round (now (t .entry)) n k (now (t .exit)) ⌝ }
     ensures { λ r. ⌜ Holders (now (t .entry)) n k r ⌝ }
 {
     let own = t[k];
-    let mut count: usize = 0;
+    let mut count: u32 = 0;
     let mut i: usize = 0;
     while i < n {
         let turn = joined(t[i], own, k, count);
@@ -60,7 +60,7 @@ pub fn closure(t: &mut [u32], n: usize) -> usize
     let mut joins: usize = 0;
     let mut k: usize = 0;
     while k < n {
-        joins += round(t, n, k);
+        joins += round(t, n, k) as usize;
         k += 1;
     }
     joins

@@ -18,6 +18,13 @@ loop-holds c = close-start _ _
 round-requires : tie.Need-round-requires Inv-loop μ-loop
 round-requires c κs = omega arith
 
+cast-joins : tie.Need-cast-joins Inv-loop μ-loop
+cast-joins c =
+    let r = c .before .before .round in
+    let l = c .before .before .before .before .before .loop in
+    let a = c .before .before .before .before .before .before .before .args in
+    omega (arith, holders-few (l .t) (a .n) (l .k) (r .result) (r .ensures .1))
+
 add-joins : tie.Need-add-joins Inv-loop μ-loop
 add-joins c =
     let r = c .before .before .round in
@@ -55,6 +62,7 @@ closure-spec =
     μ-loop
     loop-holds
     round-requires
+    cast-joins
     add-joins
     add-k
     loop-less
