@@ -17,7 +17,8 @@ fn after(s: &[u32], n: usize, set: u32) -> u32
     while left != 0 {
         let z = rows::lowest(left);
         r = rows::join(r, s[z]);
-        left = rows::without(left, z);
+        // the lowest bit is cleared without waiting for its number
+        left = left & (left - 1);
     }
     rows::meet(r, rows::all_below(n))
 }

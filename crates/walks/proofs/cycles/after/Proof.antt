@@ -3,7 +3,7 @@ use Prim.Native.Nat.{_<_}
 use native.Mathlib.Nat.{pos-of-ne-zero}
 use native.Mathlib.Omega.{arith}
 use borrow.Author.Needs.{needs}
-use Rattle.walks.proofs.cycles.Leaving.{AfterInv, after-start, first-in, after-step, after-end}
+use Rattle.walks.proofs.cycles.Leaving.{AfterInv, without-lowest, after-start, first-in, after-step, after-end}
 use Rattle.walks.proofs.cycles.after.Statement.{statement}
 use Rattle.walks.proofs.cycles.after.Tie as tie
 
@@ -35,18 +35,21 @@ shared-slice-read-join c = omega (arith, small (c .before))
 join-requires : tie.Need-join-requires Inv-loop μ-loop
 join-requires c κs = search needs
 
-without-requires : tie.Need-without-requires Inv-loop μ-loop
-without-requires c κs = let w = c .before .before .lowest .ensures in (w .below, w .bit)
+sub-left : tie.Need-sub-left Inv-loop μ-loop
+sub-left c = omega arith
 
 loop-less : tie.Need-loop-less Inv-loop μ-loop
-loop-less c = c .without .ensures .less
+loop-less c =
+    let l = c .before .before .before .before .loop in
+    let w = c .before .before .lowest in
+    without-lowest (l .left) (w .result) (w .ensures) .less
 
 loop-again : tie.Need-loop-again Inv-loop μ-loop
 loop-again c =
-    let a = c .before .before .before .before .before .before .before .args in
-    let l = c .before .before .before .before .before .loop in
-    let w = c .before .before .before .lowest in
-    after-step (a .s .now) (a .set) (l .r) (l .left) (w .result) (w .ensures) (l .inv) (c .before .join .result) (c .without .result) (c .before .join .ensures) (c .without .ensures)
+    let a = c .before .before .before .before .before .before .args in
+    let l = c .before .before .before .before .loop in
+    let w = c .before .before .lowest in
+    after-step (a .s .now) (a .set) (l .r) (l .left) (w .result) (w .ensures) (l .inv) (c .join .result) _ (c .join .ensures) (without-lowest (l .left) (w .result) (w .ensures))
 
 all-below-requires : tie.Need-all-below-requires Inv-loop μ-loop
 all-below-requires c κs = omega arith
@@ -71,7 +74,7 @@ after-spec =
     mul-join
     shared-slice-read-join
     join-requires
-    without-requires
+    sub-left
     loop-less
     loop-again
     all-below-requires
