@@ -6,7 +6,7 @@ use native.Mathlib.Nat.{div-self, div-eq-of-lt, pow-suc, add-comm, div-one, zero
 use native.Mathlib.Decide.{ℕ-discrete, decLe, decLt}
 use native.Mathlib.Numerals.{add-one}
 use native.Mathlib.Omega.{arith}
-use lib.Bits.{bitAnd, bitOr, and-step, or-step, and-shr, or-shr}
+use lib.Bits.{bitAnd, bitOr, and-step, or-step, and-shr, or-shr, and-self, and-le-r}
 use lib.Dec.{lit<}
 use lib.Count.{ones, ones-step, trailingZeros, trailing-le, under}
 use lib.Pow.{shr-shr, pow-pos, pow-add, pow-lt, shl-shr, shl-exact, ones-split, high, ones-lt}
@@ -14,7 +14,7 @@ use Rattle.rules.specs.Plan.{Counts}
 use Rattle.rules.proofs.Search.{First, None, first-below}
 use Rattle.rules.proofs.Same.{counts-map}
 use Rattle.rows.specs.Rows.{Bit}
-use Rattle.rows.specs.Row.{Without, Meet, AllBelow, Lowest, Ones}
+use Rattle.rows.specs.Row.{WithoutLowest, Meet, AllBelow, Lowest, Ones}
 use Rattle.rules.proofs.Cycle.{compare}
 
 pub bit? : (row j : ℕ) → Dec (Bit row j)
@@ -186,7 +186,7 @@ lowest-place w row h p = go (decLt (trailingZeros w row) w)
         least z b (yes q) = q
         least z b (no q) = absurd (trailing-none w row z (omega arith) b)
 
--- ---- a bit set, a bit cleared
+-- ---- a bit set, the lowest bit cleared
 
 -- `row | 1 << j` at w bits
 pub bit-set : (w row j i : ℕ) → j < w → Bit (bitOr row (1 * 2 ^ j % 2 ^ w)) i ↔ (Bit row i ⊎ (i ≡ j))
@@ -195,38 +195,39 @@ bit-set w row j i h = rw (shl-exact {a = 1} 1 j w (lit< tt) (omega arith), one-m
   λ t. bit-or row (2 ^ j) i .1 (⊎-elim inl (λ e. inr (bit-pow j i .1 e)) t),
 )
 
-clear-low : (row i : ℕ) → row % 2 ≡ 1 → Bit (row - 1) i ↔ (Bit row i × (i ≢ 0))
-clear-low row zero o = (λ b. absurd (omega (arith, div-one (row - 1))), λ t. absurd (t .1 refl))
-clear-low row (suc i) o =
-    let e : (row - 1) / 2 ≡ row / 2 = omega arith in (
-      λ b. (bit-half row i .0 (subst (λ (r : ℕ). Bit r i) e (bit-half (row - 1) i .1 b)), λ z. absurd (omega (arith, z))),
-      λ t. bit-half (row - 1) i .0 (subst (λ (r : ℕ). Bit r i) (sym e) (bit-half row i .1 (t .0))),
+-- `row & (row - 1)` keeps all bits but the lowest
+clear-lowest : (t row : ℕ) → Bit row t → ((j : ℕ) → j < t → ¬ Bit row j) → (j : ℕ) → Bit (bitAnd row (row - 1)) j ↔ (Bit row j × ¬ (j ≡ t))
+clear-lowest zero row b f zero =
+    let e = and-step row (row - 1) in
+    (λ h. absurd (omega (arith, e, div-one row, div-one (bitAnd row (row - 1)))), λ p. absurd (p .1 refl))
+clear-lowest zero row b f (suc j) =
+    let odd : row % 2 ≡ 1 = omega (arith, div-one row) in
+    let low : (row - 1) / 2 ≡ row / 2 = omega arith in
+    let e : bitAnd row (row - 1) / 2 ≡ row / 2 = omega (arith, and-step row (row - 1), ap (bitAnd (row / 2)) low, and-self (row / 2)) in
+    let half = bit-half (bitAnd row (row - 1)) j in
+    let own = bit-half row j in
+    (λ h. (own .0 (subst (λ (k : ℕ). Bit k j) e (half .1 h)), λ q. absurd (omega (arith, q))), λ p. half .0 (subst (λ (k : ℕ). Bit k j) (sym e) (own .1 (p .0))))
+clear-lowest (suc t) row b f zero =
+    let even : ¬ Bit row 0 = f 0 (omega arith) in
+    let e = and-step row (row - 1) in
+    (λ h. absurd (even (omega (arith, e, div-one row, div-one (bitAnd row (row - 1))))), λ p. absurd (even (p .0)))
+clear-lowest (suc t) row b f (suc j) =
+    let even : ¬ (row % 2 ≡ 1) = λ q. f 0 (omega arith) (omega (arith, div-one row)) in
+    let some : ¬ (row ≡ 0) = λ q. bit-zero (suc t) (subst (λ (k : ℕ). Bit k (suc t)) q b) in
+    let low : (row - 1) / 2 ≡ row / 2 - 1 = omega (arith, even, some) in
+    let e : bitAnd row (row - 1) / 2 ≡ bitAnd (row / 2) (row / 2 - 1) = omega (arith, and-step row (row - 1), ap (bitAnd (row / 2)) low, even) in
+    let half = bit-half (bitAnd row (row - 1)) j in
+    let own = bit-half row j in
+    let ih = clear-lowest t (row / 2) (bit-half row t .1 b) (λ i h q. f (suc i) (omega arith) (bit-half row i .0 q)) j in (
+      λ h. let p = ih .0 (subst (λ (k : ℕ). Bit k j) e (half .1 h)) in (own .0 (p .0), λ q. p .1 (omega (arith, q))),
+      λ p. half .0 (subst (λ (k : ℕ). Bit k j) (sym e) (ih .1 (own .1 (p .0), λ q. p .1 (ap suc q)))),
     )
 
--- a set bit taken away: the others stay
-pub bit-clear : (row j i : ℕ) → Bit row j → Bit (row - 2 ^ j) i ↔ (Bit row i × (i ≢ j))
-bit-clear row zero i b = clear-low row i (omega (arith, div-one row))
-bit-clear row (suc j) zero b =
-    let e : (row - 2 ^ suc j) % 2 ≡ row % 2 = omega (arith, pow-suc 2 j, bit-le row (suc j) b) in (
-      λ x. (omega (arith, div-one (row - 2 ^ suc j), div-one row), λ z. absurd (omega (arith, z))),
-      λ t. omega (arith, div-one (row - 2 ^ suc j), div-one row, t .0),
-    )
-bit-clear row (suc j) (suc i) b =
-    let e : (row - 2 ^ suc j) / 2 ≡ row / 2 - 2 ^ j = omega (arith, pow-suc 2 j) in
-    let ih = bit-clear (row / 2) j i (bit-half row j .1 b) in (
-      λ x. let r = ih .0 (subst (λ (r : ℕ). Bit r i) e (bit-half (row - 2 ^ suc j) i .1 x)) in (bit-half row i .0 (r .0), λ z. r .1 (omega (arith, z))),
-      λ t. bit-half (row - 2 ^ suc j) i .0 (subst (λ (r : ℕ). Bit r i) (sym e) (ih .1 (bit-half row i .1 (t .0), λ z. t .1 (ap suc z)))),
-    )
-
--- `row - (1 << j)` at w bits
-shifted : (w j : ℕ) → j < w → 1 * 2 ^ j % 2 ^ w ≡ 2 ^ j
-shifted w j h = shl-exact {a = 1} 1 j w (lit< tt) (omega arith) ∙ one-mul (2 ^ j)
-
-pub shifted-le : (w row j : ℕ) → j < w → Bit row j → 1 * 2 ^ j % 2 ^ w ≤ row
-shifted-le w row j h b = omega (arith, shifted w j h, bit-le row j b)
-
-pub clear-place : (w row j : ℕ) → j < w → Bit row j → Without row j (row - 1 * 2 ^ j % 2 ^ w)
-clear-place w row j h b = rw (shifted w j h) (record { bits = λ i. bit-clear row j i b; less = omega (arith, bit-le row j b, pow-pos j) })
+pub without-lowest : (w row : ℕ) → WithoutLowest w row (bitAnd row (row - 1))
+without-lowest w row = record { cleared = λ j low. record { bits = clear-lowest j row (low .bit) (λ i h b. absurd (omega (arith, h, low .least i b))); less = omega (arith, and-le-r row (row - 1), some j low) } }
+  where
+    some : (j : ℕ) → Lowest w row j → ¬ (row ≡ 0)
+    some j low q = bit-zero j (subst (λ (k : ℕ). Bit k j) q (low .bit))
 
 -- ---- the bits from a place on
 

@@ -1,5 +1,5 @@
 -- The contracts determine the results: two that they allow are equal. A row of w bits is below 2 ^ w.
-use Prim.Native.Nat.{ℕ, _<_}
+use Prim.Native.Nat.{ℕ, _<_, _^_}
 use mathlib.Core.Path.{_≡_, refl, sym, _∙_}
 use mathlib.Core.Bool.{Bool, true, false}
 use mathlib.Core.Logic.{_↔_}
@@ -12,11 +12,11 @@ use Rattle.determined.specs.Determined.{Determines}
 use Rattle.determined.proofs.Equal.{equal}
 use Rattle.rules.proofs.Unique.{counts-one}
 use Rattle.rows.specs.Rows.{Bit}
-use Rattle.rows.specs.Row.{With, Without, Join, Meet, AllBelow, Lowest, Ones}
+use Rattle.rows.specs.Row.{With, WithoutLowest, Join, Meet, AllBelow, Lowest, Ones}
 use Rattle.rows.specs.Closure.{KeptFrom, Closure}
 use Rattle.rows.specs.Joins.{joins}
 use Rattle.rows.specs.Determined.{DeterminesRow, DeterminesRows, DeterminesWords}
-use Rattle.rows.proofs.Bits.{same-bits}
+use Rattle.rows.proofs.Bits.{same-bits, lowest-place}
 
 -- the same answer to a question that can be told
 pub flag-one : (P : Type 0) → Determines (λ (r : Bool). (r ≡ true) ↔ P)
@@ -35,8 +35,11 @@ has-one row j = flag-one (Bit row j)
 pub with-one : (w row j : ℕ) → DeterminesRow w (With row j)
 with-one w row j r s hr hs f g = told-one _ w r s hr hs (f .bits) (g .bits)
 
-pub without-one : (w row j : ℕ) → DeterminesRow w (Without row j)
-without-one w row j r s hr hs f g = told-one _ w r s hr hs (f .bits) (g .bits)
+-- of a row that has a bit
+pub without-lowest-one : (w row : ℕ) → row < 2 ^ w → 0 < row → DeterminesRow w (WithoutLowest w row)
+without-lowest-one w row small some r s hr hs f g =
+    let low = lowest-place w row small some in
+    told-one _ w r s hr hs (f .cleared _ low .bits) (g .cleared _ low .bits)
 
 pub join-one : (w a b : ℕ) → DeterminesRow w (Join a b)
 join-one w a b r s hr hs f g = told-one _ w r s hr hs (f .bits) (g .bits)

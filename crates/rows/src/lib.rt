@@ -6,7 +6,7 @@ ghost use mathlib.Core.Bool.{true};
 ghost use mathlib.Core.Logic.{_↔_};
 ghost use Prim.Native.Nat.{_<_, _≤_};
 ghost use Rattle.rows.specs.Rows.{Bit};
-ghost use Rattle.rows.specs.Row.{With, Without, Join, Meet, AllBelow, Lowest, Ones};
+ghost use Rattle.rows.specs.Row.{With, WithoutLowest, Join, Meet, AllBelow, Lowest, Ones};
 
 // How many bits a row has.
 pub const WIDTH: usize = 32;
@@ -27,12 +27,12 @@ pub fn with_bit(row: u32, j: usize) -> u32
     row | 1 << j
 }
 
-// The row with bit j, which it has, cleared.
-pub fn without(row: u32, j: usize) -> u32
-    requires { ⌜ (j < 32) × Bit row j ⌝ }
-    ensures { λ r. ⌜ Without row j r ⌝ }
+// The row without its lowest set bit, whose place need not be known for it.
+pub fn without_lowest(row: u32) -> u32
+    requires { ⌜ 0 < row ⌝ }
+    ensures { λ r. ⌜ WithoutLowest 32 row r ⌝ }
 {
-    row - (1 << j)
+    row & (row - 1)
 }
 
 // The bits of either row.

@@ -19,7 +19,7 @@ fn spread(row: u32, set: u32, waits: &mut [u32])
     while left != 0 {
         let b = rows::lowest(left);
         waits[b] = rows::join(waits[b], row);
-        left = rows::without(left, b);
+        left = rows::without_lowest(left);
     }
 }
 

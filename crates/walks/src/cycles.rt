@@ -17,8 +17,7 @@ fn after(s: &[u32], n: usize, set: u32) -> u32
     while left != 0 {
         let z = rows::lowest(left);
         r = rows::join(r, s[z]);
-        // the lowest bit is cleared without waiting for its number
-        left = left & (left - 1);
+        left = rows::without_lowest(left);
     }
     rows::meet(r, rows::all_below(n))
 }

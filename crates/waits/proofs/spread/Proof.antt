@@ -45,17 +45,17 @@ slice-write-waits c =
     let s = c .before .before .before .before .before .before in
     spread-below (s .args .row) (s .args .set) (s .args .waits .now) (l .waits) (l .left) (c .before .before .lowest .result) (s .pre) (c .before .before .lowest .ensures) (l .inv)
 
-without-requires : tie.Need-without-requires Inv-loop μ-loop
-without-requires c κs = let l = c .before .before .lowest .ensures in (l .below, l .bit)
+without-lowest-requires : tie.Need-without-lowest-requires Inv-loop μ-loop
+without-lowest-requires c κs = pos-of-ne-zero (c .before .before .before .loop-test .taken)
 
 loop-less : tie.Need-loop-less Inv-loop μ-loop
-loop-less c = c .without .ensures .less
+loop-less c = let w = c .before .before .before .lowest in c .without-lowest .ensures .cleared (w .result) (w .ensures) .less
 
 loop-again : tie.Need-loop-again Inv-loop μ-loop
 loop-again c =
     let l = c .before .before .before .before .before .loop in
     let s = c .before .before .before .before .before .before .before in
-    spread-step (s .args .row) (s .args .set) (s .args .waits .now) (l .waits) (l .left) (c .before .before .before .lowest .result) (c .before .join .result) (c .without .result) (s .pre) (c .before .before .before .lowest .ensures) (c .before .join .ensures) (c .without .ensures) (l .inv)
+    spread-step (s .args .row) (s .args .set) (s .args .waits .now) (l .waits) (l .left) (c .before .before .before .lowest .result) (c .before .join .result) (c .without-lowest .result) (s .pre) (c .before .before .before .lowest .ensures) (c .before .join .ensures) (c .without-lowest .ensures .cleared (c .before .before .before .lowest .result) (c .before .before .before .lowest .ensures)) (l .inv)
 
 same-length : tie.Need-same-length Inv-loop μ-loop
 same-length c = c .before .loop .inv .long
@@ -79,7 +79,7 @@ spread-spec =
     join-requires
     mul-waits
     slice-write-waits
-    without-requires
+    without-lowest-requires
     loop-less
     loop-again
     same-length

@@ -1,53 +1,14 @@
 -- One set advanced to the next: the numbers to which a step leads from it.
-use Prim.Native.Nat.{ℕ, zero, suc, _-_, _<_, _/_, _%_}
-use mathlib.Core.Path.{_≡_, refl, sym, subst, ap}
+use Prim.Native.Nat.{ℕ}
+use mathlib.Core.Path.{_≡_, refl, subst}
 use mathlib.Core.Logic.{_⊎_, inl, inr, ⊎-elim, _↔_}
 use mathlib.Core.List.{List}
-use native.Mathlib.Nat.{div-one}
 use native.Mathlib.Decide.{ℕ-discrete}
-use native.Mathlib.Omega.{arith}
-use lib.Bits.{bitAnd, and-step, and-self, and-le-r}
 use lib.ListN.{getD}
 use Rattle.rows.specs.Rows.{Bit}
 use Rattle.rows.specs.Row.{Without, Join, Meet, AllBelow, Lowest}
-use Rattle.rows.proofs.Bits.{bit-zero, bit-half}
+use Rattle.rows.proofs.Bits.{bit-zero}
 use Rattle.walks.specs.Sets.{After}
-
--- `row & (row - 1)` is the row without its lowest bit
-clear-lowest : (t row : ℕ) → Bit row t → ((j : ℕ) → j < t → ¬ Bit row j) → (j : ℕ) → Bit (bitAnd row (row - 1)) j ↔ (Bit row j × ¬ (j ≡ t))
-clear-lowest zero row b f zero =
-    let e = and-step row (row - 1) in
-    (λ h. absurd (omega (arith, e, div-one row, div-one (bitAnd row (row - 1)))), λ p. absurd (p .1 refl))
-clear-lowest zero row b f (suc j) =
-    let odd : row % 2 ≡ 1 = omega (arith, div-one row) in
-    let low : (row - 1) / 2 ≡ row / 2 = omega arith in
-    let e : bitAnd row (row - 1) / 2 ≡ row / 2 = omega (arith, and-step row (row - 1), ap (bitAnd (row / 2)) low, and-self (row / 2)) in
-    let half = bit-half (bitAnd row (row - 1)) j in
-    let own = bit-half row j in
-    (λ h. (own .0 (subst (λ (k : ℕ). Bit k j) e (half .1 h)), λ q. absurd (omega (arith, q))), λ p. half .0 (subst (λ (k : ℕ). Bit k j) (sym e) (own .1 (p .0))))
-clear-lowest (suc t) row b f zero =
-    let even : ¬ Bit row 0 = f 0 (omega arith) in
-    let e = and-step row (row - 1) in
-    (λ h. absurd (even (omega (arith, e, div-one row, div-one (bitAnd row (row - 1))))), λ p. absurd (even (p .0)))
-clear-lowest (suc t) row b f (suc j) =
-    let even : ¬ (row % 2 ≡ 1) = λ q. f 0 (omega arith) (omega (arith, div-one row)) in
-    let some : ¬ (row ≡ 0) = λ q. bit-zero (suc t) (subst (λ (k : ℕ). Bit k (suc t)) q b) in
-    let low : (row - 1) / 2 ≡ row / 2 - 1 = omega (arith, even, some) in
-    let e : bitAnd row (row - 1) / 2 ≡ bitAnd (row / 2) (row / 2 - 1) = omega (arith, and-step row (row - 1), ap (bitAnd (row / 2)) low, even) in
-    let half = bit-half (bitAnd row (row - 1)) j in
-    let own = bit-half row j in
-    let ih = clear-lowest t (row / 2) (bit-half row t .1 b) (λ i h q. f (suc i) (omega arith) (bit-half row i .0 q)) j in (
-      λ h. let p = ih .0 (subst (λ (k : ℕ). Bit k j) e (half .1 h)) in (own .0 (p .0), λ q. p .1 (omega (arith, q))),
-      λ p. half .0 (subst (λ (k : ℕ). Bit k j) (sym e) (ih .1 (own .1 (p .0), λ q. p .1 (ap suc q)))),
-    )
-
-pub without-lowest : (row j : ℕ) → Lowest 32 row j → Without row j (bitAnd row (row - 1))
-without-lowest row j low =
-    let some : ¬ (row ≡ 0) = λ q. bit-zero j (subst (λ (k : ℕ). Bit k j) q (low .bit)) in
-    record {
-      bits = clear-lowest j row (low .bit) (λ i h b. absurd (omega (arith, h, low .least i b)));
-      less = omega (arith, and-le-r row (row - 1), some);
-    }
 
 -- the steps of the set's numbers that are not left are taken
 pub record AfterInv (s : List ℕ) (set r left : ℕ) : Type 0 where

@@ -3,7 +3,7 @@ use Prim.Native.Nat.{_<_}
 use native.Mathlib.Nat.{pos-of-ne-zero}
 use native.Mathlib.Omega.{arith}
 use borrow.Author.Needs.{needs}
-use Rattle.walks.proofs.cycles.Leaving.{AfterInv, without-lowest, after-start, first-in, after-step, after-end}
+use Rattle.walks.proofs.cycles.Leaving.{AfterInv, after-start, first-in, after-step, after-end}
 use Rattle.walks.proofs.cycles.after.Statement.{statement}
 use Rattle.walks.proofs.cycles.after.Tie as tie
 
@@ -35,21 +35,21 @@ shared-slice-read-join c = omega (arith, small (c .before))
 join-requires : tie.Need-join-requires Inv-loop μ-loop
 join-requires c κs = search needs
 
-sub-left : tie.Need-sub-left Inv-loop μ-loop
-sub-left c = omega arith
+without-lowest-requires : tie.Need-without-lowest-requires Inv-loop μ-loop
+without-lowest-requires c κs = pos-of-ne-zero (c .before .before .before .loop-test .taken)
 
 loop-less : tie.Need-loop-less Inv-loop μ-loop
 loop-less c =
-    let l = c .before .before .before .before .loop in
-    let w = c .before .before .lowest in
-    without-lowest (l .left) (w .result) (w .ensures) .less
+    let w = c .before .before .before .lowest in
+    c .without-lowest .ensures .cleared (w .result) (w .ensures) .less
 
 loop-again : tie.Need-loop-again Inv-loop μ-loop
 loop-again c =
-    let a = c .before .before .before .before .before .before .args in
-    let l = c .before .before .before .before .loop in
-    let w = c .before .before .lowest in
-    after-step (a .s .now) (a .set) (l .r) (l .left) (w .result) (w .ensures) (l .inv) (c .join .result) _ (c .join .ensures) (without-lowest (l .left) (w .result) (w .ensures))
+    let a = c .before .before .before .before .before .before .before .args in
+    let l = c .before .before .before .before .before .loop in
+    let w = c .before .before .before .lowest in
+    let t = c .without-lowest in
+    after-step (a .s .now) (a .set) (l .r) (l .left) (w .result) (w .ensures) (l .inv) (c .before .join .result) (t .result) (c .before .join .ensures) (t .ensures .cleared (w .result) (w .ensures))
 
 all-below-requires : tie.Need-all-below-requires Inv-loop μ-loop
 all-below-requires c κs = omega arith
@@ -74,7 +74,7 @@ after-spec =
     mul-join
     shared-slice-read-join
     join-requires
-    sub-left
+    without-lowest-requires
     loop-less
     loop-again
     all-below-requires
