@@ -7,8 +7,12 @@ mod limits;
 mod random;
 mod second;
 
+#[path = "second_tests/forms.rs"]
+mod forms;
 #[path = "second_tests/joins.rs"]
 mod joins;
+#[path = "second_tests/mappings.rs"]
+mod mappings;
 #[path = "second_tests/refusals.rs"]
 mod refusals;
 
@@ -114,6 +118,24 @@ fn refused(number: u64, paper: u64, line: u64) -> Result<Listing, Refusal> {
     Err(Refusal { number, paper, line })
 }
 
+/// A protocol with long names and exactly these waits: a pair (b, c) of
+/// different messages says that b waits for c. Each message causes itself alone
+/// and has a state, which it enters by being sent; whoever waits for it stalls
+/// there. So there are as many states as messages.
+fn protocol_with_waits(count: usize, waits: &[(usize, usize)]) -> Vec<u8> {
+    let name = |number: usize| limits::message_name(Message(number));
+    let mut lines = vec!["vn-protocol>1".to_string()];
+    lines.extend((0..count).map(|c| format!("message>{}>ctl", name(c))));
+    lines.push("event>e".to_string());
+    lines.extend((0..count).map(|c| format!("state>cache>s{}>transient", c)));
+    for c in 0..count {
+        lines.push(format!("cell>cache>s{}>e>go>s{}>{}", (c + 1) % count, c, name(c)));
+        lines.push(format!("cell>cache>s{}>{}>go>s{}>{}", c, name(c), c, name(c)));
+    }
+    lines.extend(waits.iter().map(|(b, c)| format!("cell>cache>s{}>{}>stall", c, name(*b))));
+    tabbed(&lines.iter().map(|line| line.as_str()).collect::<Vec<&str>>())
+}
+
 // ---------------------------------------------------------------------
 // The fourteen cases and the listings of the paper
 // ---------------------------------------------------------------------
@@ -145,12 +167,16 @@ fn cases_7_to_9() {
     check_class_3(6, &chain, &[(0, 5)], &[0, 0, 0, 0, 0, 1]);
 }
 
+/// "32 messages, i causes i+1, each stalls itself: 32, message i in 31-i", and
+/// the same of 33 and 64 messages.
 #[test]
 fn case_10() {
-    let causes: Vec<(usize, usize)> = (0..31).map(|i| (i, i + 1)).collect();
-    let stalls: Vec<(usize, usize)> = (0..32).map(|i| (i, i)).collect();
-    let mapping: Vec<usize> = (0..32).map(|i| 31 - i).collect();
-    check_class_3(32, &causes, &stalls, &mapping);
+    for count in [32, 33, 64] {
+        let causes: Vec<(usize, usize)> = (1..count).map(|i| (i - 1, i)).collect();
+        let stalls: Vec<(usize, usize)> = (0..count).map(|i| (i, i)).collect();
+        let mapping: Vec<usize> = (0..count).rev().collect();
+        check_class_3(count, &causes, &stalls, &mapping);
+    }
 }
 
 #[test]
@@ -216,10 +242,18 @@ fn real_judgements() {
 // Random relations
 // ---------------------------------------------------------------------
 
-/// The fast variant, with bytes around the answer that must stay.
+/// The fast variant, first form.
 fn fast(n: u64, causes: &[u8], stalls: &[u8], room: usize) -> Answer {
+    fast_by(relations_fast, n, causes, stalls, room)
+}
+
+/// The fast variant of a form.
+type FastCall = fn(u64, &[u8], &[u8], &mut [u8]) -> Numbers;
+
+/// A fast variant, with bytes around the answer that must stay.
+fn fast_by(call: FastCall, n: u64, causes: &[u8], stalls: &[u8], room: usize) -> Answer {
     let mut out = vec![0xA5; room];
-    let numbers = relations_fast(n, causes, stalls, &mut out);
+    let numbers = call(n, causes, stalls, &mut out);
     let length = numbers.length as usize;
     assert!(out[length..].iter().all(|byte| *byte == 0xA5), "bytes after the length stay");
     out.truncate(length);
@@ -296,10 +330,9 @@ fn rule_6_is_rule_7() {
     let (mut fit, mut unfit) = (0, 0);
     for seed in 0..10_000 {
         let mut random = Random::new(seed);
-        let count = random.between(1, 32);
-        let tables = random::tables(&mut random, count);
-        let stalls = read_table(count, &tables.stalls).unwrap();
-        let waits = waits_of(&read_table(count, &tables.causes).unwrap(), &stalls);
+        let count = random.between(1, if seed % 8 == 0 { 64 } else { 32 });
+        let (causes, stalls) = forms::random_relations(&mut random, count);
+        let waits = waits_of(&causes, &stalls);
         let mapping = random::mapping(&mut random, count);
         let queues = queues_of(&stalls, &mapping);
         let by_walks = unfit_by_walks(&waits, &queues);

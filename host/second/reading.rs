@@ -7,7 +7,7 @@ use super::*;
 // ---------------------------------------------------------------------
 
 pub fn read_protocol(text: &[u8]) -> Result<Protocol, Refusal> {
-    let lines = lines_after_header(text, b"vn-protocol\t1", PROTOCOL_PAPER)?;
+    let (_, lines) = lines_after_header(text, &[b"vn-protocol\t1"], PROTOCOL_PAPER)?;
     let mut protocol = Protocol::empty();
     for (place, content) in lines.iter().enumerate() {
         // The header is line 1.
@@ -165,15 +165,36 @@ pub(super) fn first_line_without_entry(protocol: &Protocol) -> Option<usize> {
 }
 
 // ---------------------------------------------------------------------
-// The mapping reader (refusals 1 to 4, 14, 15)
+// The mapping reader (refusals 1 to 4, 9, 14, 15)
 // ---------------------------------------------------------------------
+
+/// The first line of a mapping, and what may stand under it.
+pub struct MappingHeader {
+    pub first_line: &'static [u8],
+    pub most_map_lines: usize,
+    pub highest_network: usize,
+}
+
+/// "A mapping under the new header `vn-mapping` 2 may use the new limits; under
+/// header 1 its 33rd `map` line is FULL and a number above 31 is NETWORK. Header
+/// 2's 65th `map` line is FULL".
+pub const MAPPING_HEADERS: [MappingHeader; 2] = [
+    MappingHeader { first_line: b"vn-mapping\t1", most_map_lines: 32, highest_network: 31 },
+    MappingHeader {
+        first_line: b"vn-mapping\t2",
+        most_map_lines: MOST_MESSAGES,
+        highest_network: HIGHEST_NETWORK,
+    },
+];
 
 /// The network of each message, in message order.
 pub fn read_mapping(text: &[u8], names: &[Vec<u8>]) -> Result<Vec<Network>, Refusal> {
-    let lines = lines_after_header(text, b"vn-mapping\t1", MAPPING_PAPER)?;
+    let first_lines: Vec<&[u8]> = MAPPING_HEADERS.iter().map(|header| header.first_line).collect();
+    let (place, lines) = lines_after_header(text, &first_lines, MAPPING_PAPER)?;
+    let header = &MAPPING_HEADERS[place];
     let mut mapping = Vec::new();
     for (place, content) in lines.iter().enumerate() {
-        match read_map_line(content, names.get(mapping.len())) {
+        match read_map_line(header, content, mapping.len(), names) {
             Ok(network) => mapping.push(network),
             Err(number) => return Err(refusal(number, MAPPING_PAPER, place + 2)),
         }
@@ -186,28 +207,33 @@ pub fn read_mapping(text: &[u8], names: &[Vec<u8>]) -> Result<Vec<Network>, Refu
     Ok(mapping)
 }
 
-/// One line `map` name network. `due` is the next message's name, if any.
-pub(super) fn read_map_line(content: &[u8], due: Option<&Vec<u8>>) -> Result<Network, u64> {
+/// One line `map` name network, after `before` such lines, or the smallest
+/// refusal number: "in a mapping 9 stands between 4 and 14". So a `map` line too
+/// many for its header is FULL, whatever its name and network.
+pub(super) fn read_map_line(
+    header: &MappingHeader,
+    content: &[u8],
+    before: usize,
+    names: &[Vec<u8>],
+) -> Result<Network, u64> {
     let fields = split_fields(content);
     if fields[0] != b"map" || fields.len() != 3 {
         return Err(SHAPE);
     }
-    match due {
+    if before == header.most_map_lines {
+        return Err(FULL);
+    }
+    match names.get(before) {
         Some(name) if name.as_slice() == fields[1] => {}
         _ => return Err(UNMATCHED),
     }
-    match read_network(fields[2]) {
+    match read_network(header, fields[2]) {
         Some(network) => Ok(network),
         None => Err(NETWORK),
     }
 }
 
-/// "Network is decimal, 0 to 31, no leading zero."
-pub(super) fn read_network(field: &[u8]) -> Option<Network> {
-    for number in 0..=HIGHEST_NETWORK {
-        if decimal(number) == field {
-            return Some(Network(number));
-        }
-    }
-    None
+/// "Network is decimal, 0 to 31, no leading zero." Under header 2 to 63.
+pub(super) fn read_network(header: &MappingHeader, field: &[u8]) -> Option<Network> {
+    (0..=header.highest_network).find(|number| decimal(*number) == field).map(Network)
 }

@@ -60,16 +60,41 @@ impl Answer {
     }
 }
 
-/// "It checks 17, 18, then 16 (length needed: n)."
+/// A form of the relations call: how many bytes a row has, and how many
+/// messages there may be.
+#[derive(Clone, Copy, Debug, PartialEq, Eq)]
+pub struct Form {
+    pub row_bytes: usize,
+    pub most_messages: usize,
+}
+
+/// "message count 0 or above 32, or a table not exactly 4 bytes a message"
+pub const FIRST_FORM: Form = Form { row_bytes: 4, most_messages: 32 };
+
+/// Request C-15: "The relations call gets a second form with 8-byte rows."
+pub const SECOND_FORM: Form = Form { row_bytes: 8, most_messages: MOST_MESSAGES };
+
+/// The relations call, first form.
 pub fn relations(n: u64, causes: &[u8], stalls: &[u8], room: usize) -> Answer {
-    if n == 0 || n > MOST_MESSAGES as u64 {
+    relations_in(FIRST_FORM, n, causes, stalls, room)
+}
+
+/// The relations call, second form.
+pub fn relations64(n: u64, causes: &[u8], stalls: &[u8], room: usize) -> Answer {
+    relations_in(SECOND_FORM, n, causes, stalls, room)
+}
+
+/// "It checks 17, 18, then 16 (length needed: n)."
+pub fn relations_in(form: Form, n: u64, causes: &[u8], stalls: &[u8], room: usize) -> Answer {
+    if n == 0 || n > form.most_messages as u64 {
         return Answer::new(Numbers::refused(COUNT, 0), Vec::new());
     }
     let count = n as usize;
-    if causes.len() != 4 * count || stalls.len() != 4 * count {
+    let bytes = form.row_bytes * count;
+    if causes.len() != bytes || stalls.len() != bytes {
         return Answer::new(Numbers::refused(COUNT, 0), Vec::new());
     }
-    let (causes, stalls) = match (read_table(count, causes), read_table(count, stalls)) {
+    let (causes, stalls) = match (read_rows(form, count, causes), read_rows(form, count, stalls)) {
         (Some(causes), Some(stalls)) => (causes, stalls),
         _ => return Answer::new(Numbers::refused(STRAY, 0), Vec::new()),
     };
@@ -80,13 +105,24 @@ pub fn relations(n: u64, causes: &[u8], stalls: &[u8], room: usize) -> Answer {
     relations_answer(&waits_of(&causes, &stalls), joins)
 }
 
-/// "Row i is 4 bytes, lowest byte first; bit j says that i causes (stalls)
-/// j." Nothing when a bit stands at or above the count.
+/// A table of the first form.
 pub fn read_table(count: usize, table: &[u8]) -> Option<Relation> {
+    read_rows(FIRST_FORM, count, table)
+}
+
+/// A table of the second form.
+pub fn read_table64(count: usize, table: &[u8]) -> Option<Relation> {
+    read_rows(SECOND_FORM, count, table)
+}
+
+/// "Row i is 4 bytes, lowest byte first; bit j says that i causes (stalls)
+/// j." In the second form 8 bytes. Nothing when a bit stands at or above the
+/// count.
+pub(super) fn read_rows(form: Form, count: usize, table: &[u8]) -> Option<Relation> {
     let mut relation = Relation::empty(count);
     for from in messages_below(count) {
-        for bit in 0..32 {
-            let byte = table[4 * from.0 + bit / 8];
+        for bit in 0..8 * form.row_bytes {
+            let byte = table[form.row_bytes * from.0 + bit / 8];
             if byte >> (bit % 8) & 1 == 1 {
                 if bit >= count {
                     return None;

@@ -145,24 +145,31 @@ pub(super) fn split_fields(line: &[u8]) -> Vec<&[u8]> {
     line.split(|byte| *byte == TAB).collect()
 }
 
-/// Refusals 1, 2 and 3, in this order. Gives the lines after the first.
-pub(super) fn lines_after_header<'a>(
-    text: &'a [u8],
-    header: &[u8],
-    paper: u64,
-) -> Result<Vec<&'a [u8]>, Refusal> {
+/// Refusals 1 and 2, in this order. Gives all lines.
+pub(super) fn ended_lines(text: &[u8], paper: u64) -> Result<Vec<&[u8]>, Refusal> {
     if text.len() > MOST_BYTES {
         return Err(refusal(TOO_BIG, paper, 0));
     }
     if !text.is_empty() && text[text.len() - 1] != LINE_END {
-        let ended_lines = text.iter().filter(|byte| **byte == LINE_END).count();
-        return Err(refusal(NO_END, paper, ended_lines + 1));
+        let line_ends = text.iter().filter(|byte| **byte == LINE_END).count();
+        return Err(refusal(NO_END, paper, line_ends + 1));
     }
-    let lines = split_lines(text);
-    if lines.is_empty() || lines[0] != header {
-        return Err(refusal(HEADER, paper, 1));
+    Ok(split_lines(text))
+}
+
+/// Refusals 1, 2 and 3, in this order. Gives the place of the first line among
+/// the headers, and the lines after it.
+pub(super) fn lines_after_header<'a>(
+    text: &'a [u8],
+    headers: &[&[u8]],
+    paper: u64,
+) -> Result<(usize, Vec<&'a [u8]>), Refusal> {
+    let lines = ended_lines(text, paper)?;
+    let place = lines.first().and_then(|first| headers.iter().position(|header| header == first));
+    match place {
+        Some(place) => Ok((place, lines[1..].to_vec())),
+        None => Err(refusal(HEADER, paper, 1)),
     }
-    Ok(lines[1..].to_vec())
 }
 
 /// "A name has 1 to 24 bytes out of letters, digits, `-`, `+`, `_`, `.`."

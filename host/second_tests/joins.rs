@@ -28,21 +28,24 @@ fn joins_by_hand() {
     assert_eq!(joins(6, &[(0, 1), (1, 2), (2, 3), (3, 4)]), 10);
 }
 
+/// The joins of a chain, of the chain the other way round, of a ring, of each
+/// message with itself, and of all pairs.
+fn joins_of_shapes(n: usize) -> [usize; 5] {
+    let chain: Vec<(usize, usize)> = (1..n).map(|i| (i - 1, i)).collect();
+    let back: Vec<(usize, usize)> = (1..n).map(|i| (i, i - 1)).collect();
+    let ring: Vec<(usize, usize)> = (0..n).map(|i| (i, (i + 1) % n)).collect();
+    let own: Vec<(usize, usize)> = (0..n).map(|i| (i, i)).collect();
+    let all: Vec<(usize, usize)> = (0..n * n).map(|i| (i / n, i % n)).collect();
+    [chain, back, ring, own, all].map(|causes| joins(n, &causes))
+}
+
 /// Case 10 has 0 + 1 + .. + 31 joins. The other way round each row is joined
 /// once. In a ring the last row holds every message when its turn comes, so
 /// there are 1 + 2 + .. + 31 and then 32. At most there are n times n.
 #[test]
-fn joins_of_32_messages() {
-    let chain: Vec<(usize, usize)> = (0..31).map(|i| (i, i + 1)).collect();
-    let back: Vec<(usize, usize)> = (0..31).map(|i| (i + 1, i)).collect();
-    let ring: Vec<(usize, usize)> = (0..32).map(|i| (i, (i + 1) % 32)).collect();
-    let own: Vec<(usize, usize)> = (0..32).map(|i| (i, i)).collect();
-    let all: Vec<(usize, usize)> = (0..1_024).map(|i| (i / 32, i % 32)).collect();
-    assert_eq!(joins(32, &chain), 496);
-    assert_eq!(joins(32, &back), 31);
-    assert_eq!(joins(32, &ring), 528);
-    assert_eq!(joins(32, &own), 32);
-    assert_eq!(joins(32, &all), 1_024);
+fn joins_of_32_and_64_messages() {
+    assert_eq!(joins_of_shapes(32), [496, 31, 528, 32, 1_024]);
+    assert_eq!(joins_of_shapes(64), [2_016, 63, 2_080, 64, 4_096]);
 }
 
 /// Whether one or more causes steps lead from a message to another, all those
@@ -70,9 +73,8 @@ fn led_through_lower(causes: &Relation, from: Message, to: Message) -> bool {
 fn joins_by_steps() {
     for seed in 0..20_000 {
         let mut random = Random::new(seed);
-        let count = random.between(1, if seed % 8 == 0 { 32 } else { 8 });
-        let tables = random::tables(&mut random, count);
-        let causes = read_table(count, &tables.causes).unwrap();
+        let count = random.between(1, if seed % 32 == 0 { 64 } else { 8 });
+        let (causes, stalls) = forms::random_relations(&mut random, count);
         let mut led = 0;
         for middle in causes.messages() {
             led += causes.messages().filter(|from| led_through_lower(&causes, *from, middle)).count();
@@ -81,7 +83,8 @@ fn joins_by_steps() {
         assert_eq!(rows, causes.one_or_more_steps(), "seed {}", seed);
         assert_eq!(joins, led, "seed {}", seed);
         assert!(joins <= count * count, "seed {}", seed);
-        let answer = relations(count as u64, &tables.causes, &tables.stalls, count);
+        let (causes, stalls) = (forms::table(8, &causes), forms::table(8, &stalls));
+        let answer = relations64(count as u64, &causes, &stalls, count);
         assert_eq!(answer.joins, joins as u64, "seed {}", seed);
     }
 }

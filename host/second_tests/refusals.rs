@@ -1,6 +1,7 @@
 //! Refusals of texts, on both sides of each limit.
 
 use super::*;
+use limits::Counts;
 
 /// Line 18 of Bell with one line more; 0 means accepted.
 fn number_after_bell(line: &str) -> u64 {
@@ -148,19 +149,31 @@ fn entries() {
     check(&["cell>dir>T>a>stall", "cell>cache>T>a>stall"], 7);
 }
 
+/// "Messages go up to 64, [..] 8 events, 64 states over both controllers, 512
+/// cells and 49,152 bytes stay."
+const MOST: Counts = Counts { messages: 64, events: 8, states: 64, cells: 512, bytes: 49_152 };
+
 #[test]
 fn one_more_than_a_limit() {
-    let full = limits::full();
+    let full = limits::protocol_text(&MOST);
     assert_eq!(full.len(), 49_152);
     let protocol = read_protocol(&full).unwrap();
-    assert_eq!(protocol.messages.len(), 32);
+    assert_eq!(protocol.messages.len(), 64);
     assert_eq!(protocol.events.len(), 8);
     assert_eq!(protocol.states.len(), 64);
     assert_eq!(protocol.cells.len(), 512);
     assert!(plan(&full).is_ok());
-    for past in limits::one_more_of_each() {
-        let right = refused(past.number, 0, past.line);
-        assert_eq!(plan(&past.text), right, "{}", past.limit);
+    // The line is that of the first record too many.
+    let past = [
+        (Counts { bytes: 49_153, ..MOST }, TOO_BIG, 0),
+        (Counts { messages: 65, ..MOST }, FULL, 1 + 65),
+        (Counts { events: 9, ..MOST }, FULL, 1 + 64 + 9),
+        (Counts { states: 65, ..MOST }, FULL, 1 + 64 + 8 + 65),
+        (Counts { cells: 513, ..MOST }, FULL, 1 + 64 + 8 + 64 + 513),
+    ];
+    for (counts, number, line) in past {
+        let text = limits::protocol_text(&counts);
+        assert_eq!(plan(&text), refused(number, 0, line), "{:?}", counts);
     }
 }
 
@@ -176,7 +189,7 @@ fn number_with(text: &[u8], line: &str) -> u64 {
 #[test]
 fn smallest_number_of_a_line() {
     // All tables are full, but there are bytes left.
-    let cells = limits::protocol_text(&limits::Counts { bytes: 45_000, ..limits::MOST });
+    let cells = limits::protocol_text(&Counts { bytes: 45_000, ..MOST });
     let message = limits::message_name(Message(0));
     let stall = format!("cell>cache>s0>{}>stall", message);
     let conflict = cells.split(|byte| *byte == 10).find(|line| line.ends_with(b"stall")).unwrap();
@@ -187,12 +200,12 @@ fn smallest_number_of_a_line() {
     assert_eq!(number_with(&cells, "state>cache>s0>stable"), ORDER);
     assert_eq!(number_with(&cells, "state>cache>s0>steady"), SHAPE);
     let mut messages = tabbed(&["vn-protocol>1"]);
-    for number in 0..32 {
+    for number in 0..64 {
         messages.extend(format!("message\tm{}\treq\n", number).into_bytes());
     }
     assert!(plan(&messages).is_ok());
-    assert_eq!(number_with(&messages, "message>m32>req"), FULL);
-    assert_eq!(number_with(&messages, "message>m31>req"), TWICE);
+    assert_eq!(number_with(&messages, "message>m64>req"), FULL);
+    assert_eq!(number_with(&messages, "message>m63>req"), TWICE);
     assert_eq!(number_with(&messages, "message>m?>req"), NAME);
     assert_eq!(number_with(&messages, "message>m?>ask"), SHAPE);
     // Stable comes before conflict.
@@ -201,15 +214,22 @@ fn smallest_number_of_a_line() {
 
 #[test]
 fn longest_answers() {
-    let listing = plan(&limits::longest_plan()).unwrap();
-    assert!(listing.starts_with(&tabbed(&["vn-plan>1", "class>3", "networks>32"])));
-    // 22 of the 32 networks have two digits.
-    assert_eq!(listing.len(), 30 + 32 * 31 + 22);
-    let listing = plan(&limits::longest_cycle()).unwrap();
-    assert_eq!(listing.len(), 18 + 5 + 32 * 25 + 1);
-    let (protocol, mapping) = limits::longest_unfit();
-    let listing = judge(&protocol, &mapping).unwrap();
-    assert_eq!(listing.len(), 17 + 16 * 61 + 16 * 62);
+    // Message i waits for i + 1.
+    let chain: Vec<(usize, usize)> = (0..63).map(|i| (i, i + 1)).collect();
+    let listing = plan(&protocol_with_waits(64, &chain)).unwrap();
+    assert!(listing.starts_with(&tabbed(&["vn-plan>1", "class>3", "networks>64"])));
+    // 54 of the 64 networks have two digits.
+    assert_eq!(listing.len(), 30 + 64 * 31 + 54);
+    let ring: Vec<(usize, usize)> = (0..64).map(|i| (i, (i + 1) % 64)).collect();
+    let listing = plan(&protocol_with_waits(64, &ring)).unwrap();
+    assert_eq!(listing.len(), 18 + 5 + 64 * 25 + 1);
+    // Waits and queues in turn: i waits for 32 + i, which shares a network with
+    // i + 1 and queues behind it.
+    let across: Vec<(usize, usize)> = (0..32).map(|i| (i, 32 + i)).collect();
+    let mapping: Vec<usize> = (0..32).chain((1..33).map(|i| i % 32)).collect();
+    let mapping = mappings::long_names_under(2, &mapping);
+    let listing = judge(&protocol_with_waits(64, &across), &mapping).unwrap();
+    assert_eq!(listing.len(), 17 + 32 * 61 + 32 * 62);
 }
 
 #[test]
