@@ -8,6 +8,7 @@ use lib.ListN.{length, take, drop, getD, set, replicate, length-append, length-m
 use lib.Seq.{drop-cons, drop-drop, set-at, getD-take, length-take-le}
 use borrow.Author.Tests.{eq-eqb, ne-eqb}
 use Rattle.rules.specs.declared.Network.{Network}
+use Rattle.rules.specs.Numbers.{asNetwork}
 use Rattle.text.specs.Parts.{part, place, split, lines}
 use Rattle.text.specs.Words.{mappingHeader}
 use Rattle.text.proofs.Lines.{lines-end}
@@ -21,7 +22,7 @@ use Rattle.tables.specs.declared.MessageRow.{MessageRow}
 use Rattle.mapping.specs.declared.Mapped.{Mapped}
 use Rattle.text.specs.Line.{field}
 use Rattle.mapping.specs.lines.Line.{mapShaped, mapRefusal}
-use Rattle.mapping.specs.networks.Networks.{networkOf, networkNo}
+use Rattle.mapping.specs.networks.Networks.{networkOf}
 use Rattle.mapping.specs.Reading.{mapsRefused, mapsUnless, readMaps, readMapping}
 use Rattle.mapping.proofs.lines.LineLaws.{line-shape, line-many, line-next}
 
@@ -56,26 +57,26 @@ pub record Going (text : List ℕ) (from : ℕ) (messages : List MessageRow) (co
   pub few : i ≤ count
   pub ns : List ℕ
   pub long : length ns ≡ i
-  pub kept : networks ≡ map networkNo (ns ++ replicate (32 - i) 0)
+  pub kept : networks ≡ map asNetwork (ns ++ replicate (32 - i) 0)
   pub goal : readMaps (i + 2) (lines (drop at text)) (drop i (take count messages)) ns ≡ readMaps 2 (lines (drop from text)) (take count messages) []
 
-zeros : (n : ℕ) → replicate n (networkNo 0) ≡ map networkNo (replicate n 0)
+zeros : (n : ℕ) → replicate n (asNetwork 0) ≡ map asNetwork (replicate n 0)
 zeros zero = refl
-zeros (suc n) = ap (λ (l : List Network). networkNo 0 ∷ l) (zeros n)
+zeros (suc n) = ap (λ (l : List Network). asNetwork 0 ∷ l) (zeros n)
 
 -- one network is stored behind those that are there
 stored : (ns : List ℕ) (i n : ℕ) → length ns ≡ i → i < 32
-    → set (map networkNo (ns ++ replicate (32 - i) 0)) i (networkNo n) ≡ map networkNo ((ns ++ (n ∷ [])) ++ replicate (32 - (i + 1)) 0)
+    → set (map asNetwork (ns ++ replicate (32 - i) 0)) i (asNetwork n) ≡ map asNetwork ((ns ++ (n ∷ [])) ++ replicate (32 - (i + 1)) 0)
 stored ns i n e h =
     let q : 32 - i ≡ suc (32 - (i + 1)) = omega arith in
     let zs : List ℕ = replicate (32 - (i + 1)) 0 in
-    ap (λ (j : ℕ). set (map networkNo (ns ++ replicate j 0)) i (networkNo n)) q
-    ∙ ap (λ (l : List Network). set l i (networkNo n)) (map-append networkNo ns (0 ∷ zs))
-    ∙ set-at (map networkNo ns) (networkNo 0) (map networkNo zs) (networkNo n) i (length-map ns networkNo ∙ e)
-    ∙ sym (map-append networkNo ns (n ∷ zs)) ∙ ap (map networkNo) (sym (append-assoc ns (n ∷ []) zs))
+    ap (λ (j : ℕ). set (map asNetwork (ns ++ replicate j 0)) i (asNetwork n)) q
+    ∙ ap (λ (l : List Network). set l i (asNetwork n)) (map-append asNetwork ns (0 ∷ zs))
+    ∙ set-at (map asNetwork ns) (asNetwork 0) (map asNetwork zs) (asNetwork n) i (length-map ns asNetwork ∙ e)
+    ∙ sym (map-append asNetwork ns (n ∷ zs)) ∙ ap (map asNetwork) (sym (append-assoc ns (n ∷ []) zs))
 
 module _ (d : MessageRow) (text : List ℕ) (from : ℕ) (messages : List MessageRow) (count : ℕ) where
-  pub going-first : Lined text from → Going text from messages count from 0 (replicate 32 (networkNo 0))
+  pub going-first : Lined text from → Going text from messages count from 0 (replicate 32 (asNetwork 0))
   going-first h = record { left = h; few = omega arith; ns = []; long = refl; kept = zeros 32; goal = refl }
 
   module _ (at i : ℕ) (networks : List Network) (g : Going text from messages count at i networks) where
@@ -87,7 +88,7 @@ module _ (d : MessageRow) (text : List ℕ) (from : ℕ) (messages : List Messag
         let ms = take count messages in
         let w : length ms ≤ i = omega (arith, length-take-le count messages (omega arith)) in
         ap (λ (l : List Network). record { refusal = none; networks = l })
-        (g .kept ∙ ap (λ (j : ℕ). map networkNo (g .ns ++ replicate (32 - j) 0)) (sym (g .long)))
+        (g .kept ∙ ap (λ (j : ℕ). map asNetwork (g .ns ++ replicate (32 - j) 0)) (sym (g .long)))
         ∙ sym (ap₂ (λ (ls : List (List ℕ)) (next : List MessageRow). readMaps (i + 2) ls next (g .ns)) (lines-end text at h) (drop-of-length-le ms {i = i} w))
         ∙ g .goal
 
@@ -152,7 +153,7 @@ module _ (d : MessageRow) (text : List ℕ) (from : ℕ) (messages : List Messag
           going-refused why q z = refused-by why z (checks ∙ sym q)
 
           pub going-more : (why : Refusal) → why ≡ mapRefusal (getD messages i d ∷ []) (i + 2) (split 9 (part text at (place 10 text at (length text)))) → why .number ≡ 0
-              → (network : Network) → network ≡ networkNo (networkOf (field (split 9 (part text at (place 10 text at (length text)))) 2))
+              → (network : Network) → network ≡ asNetwork (networkOf (field (split 9 (part text at (place 10 text at (length text)))) 2))
               → Going text from messages count (place 10 text at (length text) + 1) (i + 1) (set networks i network)
           going-more why q z network v =
               let n = networkOf (field (split 9 (part text at e)) 2) in

@@ -5,12 +5,13 @@ use mathlib.Core.List.{List, [], _∷_, _++_, map}
 use lib.ListN.{length, drop, replicate}
 use lib.Dec.{eqb}
 use Rattle.text.specs.Parts.{split, lines}
+use Rattle.rules.specs.Numbers.{asNetwork}
 use Rattle.text.specs.Words.{mappingHeader}
 use Rattle.papers.specs.declared.Refusal.{Refusal}
 use Rattle.papers.specs.Checks.{refusal, none}
 use Rattle.papers.specs.Opening.{openingOf}
 use Rattle.tables.specs.declared.MessageRow.{MessageRow}
-use Rattle.mapping.specs.networks.Networks.{networkOf, networkNo}
+use Rattle.mapping.specs.networks.Networks.{networkOf}
 use Rattle.text.specs.Line.{field}
 use Rattle.mapping.specs.lines.Line.{mapRefusal}
 use Rattle.mapping.specs.declared.Mapped.{Mapped}
@@ -19,10 +20,10 @@ use Rattle.mapping.specs.declared.Mapped.{Mapped}
 
 -- Networks past the last message are 0.
 abbrev pub mapsAccepted : List ℕ → Mapped
-mapsAccepted ns = record { refusal = none; networks = map networkNo (ns ++ replicate (32 - length ns) 0) }
+mapsAccepted ns = record { refusal = none; networks = map asNetwork (ns ++ replicate (32 - length ns) 0) }
 
 abbrev pub mapsRefused : Refusal → Mapped
-mapsRefused r = record { refusal = r; networks = replicate 32 (networkNo 0) }
+mapsRefused r = record { refusal = r; networks = replicate 32 (asNetwork 0) }
 
 -- The answer, where nothing is refused.
 abbrev pub mapsUnless : Refusal → Mapped → Mapped

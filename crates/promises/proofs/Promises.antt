@@ -7,6 +7,7 @@ use native.Mathlib.Omega.{arith}
 use lib.ListN.{length, getD, replicate, List·getD-map}
 use lib.Seq.{length-take-le, getD-take}
 use Rattle.rules.specs.declared.Network.{Network}
+use Rattle.rules.specs.Numbers.{asNetwork}
 use Rattle.rules.specs.Rules.{MessageNo, Relations, Waits, Fit}
 use Rattle.rules.specs.Plan.{Height, LeastCount, Printed, Uses, LongestChain}
 use Rattle.rules.proofs.Promises.{every-printed, shown-is-real, cycle-is-unfit}
@@ -19,7 +20,6 @@ use Rattle.protocol.specs.Reading.{readProtocol}
 use Rattle.reading_laws.specs.protocols.Promises.{AcceptedReading}
 use Rattle.reading_laws.proofs.protocols.Accepted.{accepted-kept}
 use Rattle.mapping.specs.declared.Mapped.{Mapped}
-use Rattle.mapping.specs.networks.Networks.{networkNo}
 use Rattle.mapping.specs.Reading.{mapsAccepted}
 use Rattle.mapping.specs.Text.{mappingText, Writable}
 use Rattle.reading_laws.proofs.mappings.RoundTrip.{reads-back}
@@ -101,8 +101,8 @@ module _ (x : List ℕ) (e : readProtocol x .refusal .number ≡ 0) where
 
     same : (m : MessageNo) → m < t .«message_count» → getD ns m 0 ≡ mappingOf (mapped x text .networks) m
     same m h =
-        sym (ap (λ (r : Mapped). getD (r .networks) m (networkNo 0) .0) back
-        ∙ ap (λ (n : Network). n .0) (List·getD-map networkNo (ns ++ replicate (32 - length ns) 0) m 0) ∙ pad-at ns (32 - length ns) m)
+        sym (ap (λ (r : Mapped). getD (r .networks) m (asNetwork 0) .0) back
+        ∙ ap (λ (n : Network). n .0) (List·getD-map asNetwork (ns ++ replicate (32 - length ns) 0) m 0) ∙ pad-at ns (32 - length ns) m)
 
     printed-text : Printed p (mappingOf (mapped x text .networks))
     printed-text m h = subst (Height (Waits p) m) (same m h) (printed m h)

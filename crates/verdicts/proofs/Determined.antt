@@ -18,7 +18,7 @@ use Rattle.tables.specs.Cells.{relationsOfTables, number as messageNumber}
 use Rattle.plan_listing.specs.PlanText.{networkNumber, firstMessages, firstNetworks}
 use Rattle.verdicts.specs.declared.PlanFound.{PlanFound}
 use Rattle.verdicts.specs.declared.JudgementFound.{JudgementFound}
-use Rattle.verdicts.specs.Numbers.{asMessage, asNetwork}
+use Rattle.rules.specs.Numbers.{asMessage, asNetwork}
 use Rattle.verdicts.specs.Verdicts.{clearedMessage, NetworksPast, StoredCycle, PlanIs, ThreeFound, TwoFound, mappingOf, Fitting, Unfitting, JudgementIs}
 
 -- ---- arrays, by their first numbers and what is past them

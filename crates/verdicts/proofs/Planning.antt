@@ -21,7 +21,7 @@ use Rattle.walks.specs.Walks.{Heights, Cycle}
 use Rattle.tables.specs.Cells.{relationsOfTables}
 use Rattle.tables.proofs.InRange.{relations-accepted}
 use Rattle.plan_listing.specs.PlanText.{firstNetworks}
-use Rattle.verdicts.specs.Numbers.{asMessage, asNetwork}
+use Rattle.rules.specs.Numbers.{asMessage, asNetwork}
 use Rattle.verdicts.specs.declared.PlanFound.{PlanFound}
 use Rattle.verdicts.specs.Verdicts.{WaitsOf, ThreeFound, TwoFound}
 use Rattle.verdicts.specs.Planning.{rankedPlan, cyclePlan, PlanOfRows}

@@ -10,7 +10,7 @@ use Rattle.rules.proofs.Cycle.{All<, closed-small}
 use Rattle.rows.specs.Rows.{Rows}
 use Rattle.walks.specs.Walks.{Cycle}
 use Rattle.plan_listing.specs.PlanText.{firstMessages, firstNetworks, MessagesBelow}
-use Rattle.verdicts.specs.Numbers.{asMessage, asNetwork}
+use Rattle.rules.specs.Numbers.{asMessage, asNetwork}
 use Rattle.verdicts.specs.Verdicts.{MessagesPast, StoredCycle}
 
 -- ---- the first numbers

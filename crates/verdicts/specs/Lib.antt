@@ -1,4 +1,3 @@
-pub mod Numbers
 pub mod Verdicts
 pub mod Planning
 pub mod judgement

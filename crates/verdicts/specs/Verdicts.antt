@@ -11,7 +11,7 @@ use Rattle.rules.specs.Plan.{LeastCount, Printed, PlanCycle, JudgeCycle}
 use Rattle.rows.specs.Rows.{Bit}
 pub use Rattle.waits.specs.steps.Steps.{mappingOf}
 use Rattle.plan_listing.specs.PlanText.{firstMessages, firstNetworks, MessagesBelow}
-use Rattle.verdicts.specs.Numbers.{asMessage, asNetwork}
+use Rattle.rules.specs.Numbers.{asMessage, asNetwork}
 use Rattle.verdicts.specs.declared.PlanFound.{PlanFound}
 use Rattle.verdicts.specs.declared.JudgementFound.{JudgementFound}
 

@@ -6,7 +6,7 @@ ghost use mathlib.Core.List.{map};
 ghost use Prim.Native.Nat.{_<_, _≤_};
 ghost use Rattle.tables.specs.Cells.{relationsOfTables, TablesOk};
 ghost use Rattle.verdicts.specs.Verdicts.{PlanIs};
-ghost use Rattle.verdicts.specs.Numbers.{asMessage, asNetwork};
+ghost use Rattle.rules.specs.Numbers.{asMessage, asNetwork};
 ghost use Rattle.verdicts.specs.Planning.{rankedPlan, cyclePlan, PlanOfRows};
 use rules::Message;
 use rules::Network;

@@ -8,6 +8,7 @@ use lib.ListN.{length, getD}
 use lib.Dec.{eqb}
 use borrow.Author.Tests.{eqb-true, eq-eqb, ne-eqb}
 use Rattle.text.specs.Parts.{sameText, split}
+use Rattle.rules.specs.Numbers.{asNetwork}
 use Rattle.text.specs.Line.{Line, field, says}
 use Rattle.text.specs.Name.{nameText}
 use Rattle.text.specs.Words.{mapWord}
@@ -20,7 +21,7 @@ use Rattle.papers.proofs.Checks.{first-given, first-passed}
 use Rattle.papers.proofs.WholeLine.{whole-count, count-whole, told-field}
 use Rattle.tables.specs.declared.MessageRow.{MessageRow}
 use Rattle.mapping.specs.declared.lines.MapLine.{MapLine}
-use Rattle.mapping.specs.networks.Networks.{networkOf, isNetwork, networkNo}
+use Rattle.mapping.specs.networks.Networks.{networkOf, isNetwork}
 use Rattle.mapping.specs.lines.Line.{mapShaped, matches, mapRefusal, MapTold}
 
 -- ---- the shape
@@ -101,5 +102,5 @@ module _ (k : ℕ) (m : MessageRow) (f : Line) (r : MapLine) where
   gives-none n h e q = record { told = q ∙ sym e; network = λ z. absurd (h (sym (ap (λ (x : Refusal). x .number) q) ∙ z)) }
 
   -- it gives its network
-  pub gives-network : mapRefusal (m ∷ []) k f ≡ none → r .refusal ≡ none → r .network ≡ networkNo (networkOf (field f 2)) → MapTold k m f r
+  pub gives-network : mapRefusal (m ∷ []) k f ≡ none → r .refusal ≡ none → r .network ≡ asNetwork (networkOf (field f 2)) → MapTold k m f r
   gives-network e q n = record { told = q ∙ sym e; network = λ z. n }

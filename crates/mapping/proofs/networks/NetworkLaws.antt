@@ -9,13 +9,14 @@ use lib.ListN.{length, getD}
 use lib.Dec.{ltb}
 use borrow.Author.Tests.{lt-ltb, ltb-true, ltb-false}
 use Rattle.rules.specs.declared.Network.{Network}
+use Rattle.rules.specs.Numbers.{asNetwork}
 use Rattle.rules.specs.Lists.{upTo}
 use Rattle.text.specs.Written.{decimal}
 use Rattle.text.proofs.Parts.{true-same, same-false, first-at, first-none}
 use Rattle.text.proofs.Found.{found-is, found-nothing}
 use Rattle.text.proofs.Written.{decimal-small, decimal-step}
 use Rattle.mapping.specs.declared.networks.FoundNetwork.the-variants.{Is as IsNetwork, Nothing as NoNetwork}
-use Rattle.mapping.specs.networks.Networks.{writtenAs, networkOf, isNetwork, networkNo, foundNetwork}
+use Rattle.mapping.specs.networks.Networks.{writtenAs, networkOf, isNetwork, foundNetwork}
 
 module _ {A : Type 0} where
   pub getD-upTo : (n i : ℕ) (f : ℕ → A) (d : A) → i < n → getD (upTo n f) i d ≡ f i
@@ -124,22 +125,22 @@ length-none x f g =
 -- ---- what is found
 
 module _ (x : List ℕ) where
-  pub found-network : (n : ℕ) → networkOf x ≡ n → n < 32 → IsNetwork (networkNo n) ≡ foundNetwork x
+  pub found-network : (n : ℕ) → networkOf x ≡ n → n < 32 → IsNetwork (asNetwork n) ≡ foundNetwork x
   unfolding foundNetwork
-  found-network n e h = sym (ap (λ (k : ℕ). cond (ltb k 32) (IsNetwork (networkNo k)) NoNetwork) e ∙ ap (λ (b : Bool). cond b (IsNetwork (networkNo n)) NoNetwork) (lt-ltb n 32 h))
+  found-network n e h = sym (ap (λ (k : ℕ). cond (ltb k 32) (IsNetwork (asNetwork k)) NoNetwork) e ∙ ap (λ (b : Bool). cond b (IsNetwork (asNetwork n)) NoNetwork) (lt-ltb n 32 h))
 
   pub found-none : networkOf x ≡ 32 → NoNetwork ≡ foundNetwork x
   unfolding foundNetwork
-  found-none e = sym (ap (λ (k : ℕ). cond (ltb k 32) (IsNetwork (networkNo k)) NoNetwork) e)
+  found-none e = sym (ap (λ (k : ℕ). cond (ltb k 32) (IsNetwork (asNetwork k)) NoNetwork) e)
 
   -- from what was found
-  pub is-found : (n : Network) → IsNetwork n ≡ foundNetwork x → (isNetwork x ≡ true) × (n ≡ networkNo (networkOf x))
+  pub is-found : (n : Network) → IsNetwork n ≡ foundNetwork x → (isNetwork x ≡ true) × (n ≡ asNetwork (networkOf x))
   unfolding foundNetwork
-  is-found n e = found-is IsNetwork NoNetwork (λ a b q. cc) (λ a q. let z : _≡_ {A = ℕ} 0 1 = cc in omega arith) (isNetwork x) (networkNo (networkOf x)) n e
+  is-found n e = found-is IsNetwork NoNetwork (λ a b q. cc) (λ a q. let z : _≡_ {A = ℕ} 0 1 = cc in omega arith) (isNetwork x) (asNetwork (networkOf x)) n e
 
   pub not-found : NoNetwork ≡ foundNetwork x → isNetwork x ≡ false
   unfolding foundNetwork
-  not-found e = found-nothing IsNetwork NoNetwork (λ a b q. cc) (λ a q. let z : _≡_ {A = ℕ} 0 1 = cc in omega arith) (isNetwork x) (networkNo (networkOf x)) e
+  not-found e = found-nothing IsNetwork NoNetwork (λ a b q. cc) (λ a q. let z : _≡_ {A = ℕ} 0 1 = cc in omega arith) (isNetwork x) (asNetwork (networkOf x)) e
 
 -- a list by its length
 pub of-one : (x : List ℕ) → length x ≡ 1 → x ≡ getD x 0 0 ∷ []

@@ -6,13 +6,14 @@ use mathlib.Core.List.{List, [], _∷_}
 use lib.ListN.{length}
 use lib.Dec.{eqb}
 use Rattle.text.specs.Parts.{sameText}
+use Rattle.rules.specs.Numbers.{asNetwork}
 use Rattle.text.specs.Line.{Line, field, says}
 use Rattle.text.specs.Name.{nameText}
 use Rattle.text.specs.Words.{mapWord}
 use Rattle.papers.specs.declared.Refusal.{Refusal}
 use Rattle.papers.specs.Checks.{Check, check, refusal, firstOf}
 use Rattle.tables.specs.declared.MessageRow.{MessageRow}
-use Rattle.mapping.specs.networks.Networks.{networkOf, isNetwork, networkNo}
+use Rattle.mapping.specs.networks.Networks.{networkOf, isNetwork}
 use Rattle.mapping.specs.declared.lines.MapLine.{MapLine}
 
 -- ---- a line's checks
@@ -42,4 +43,4 @@ mapRefusal next k f = firstOf (mapChecks next k f)
 -- Line k, where it is the turn of this message.
 pub record MapTold (k : ℕ) (m : MessageRow) (f : Line) (r : MapLine) : Type 0 where
   pub told : r .refusal ≡ mapRefusal (m ∷ []) k f
-  pub network : r .refusal .number ≡ 0 → r .network ≡ networkNo (networkOf (field f 2))
+  pub network : r .refusal .number ≡ 0 → r .network ≡ asNetwork (networkOf (field f 2))

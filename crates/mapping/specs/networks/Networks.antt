@@ -2,6 +2,7 @@
 use mathlib.Core.Bool.{Bool, cond}
 use lib.Dec.{ltb}
 use Rattle.rules.specs.declared.Network.{Network}
+use Rattle.rules.specs.Numbers.{asNetwork}
 use Rattle.mapping.specs.declared.networks.FoundNetwork.{FoundNetwork}
 use Rattle.mapping.specs.declared.networks.FoundNetwork.the-variants.{Is as IsNetwork, Nothing as NoNetwork}
 use Prim.Native.Nat.{ℕ}
@@ -21,9 +22,6 @@ networkOf x = firstIndex (writtenAs x) (upTo 32 (λ n. n))
 abbrev pub isNetwork : List ℕ → Bool
 isNetwork x = ltb (networkOf x) 32
 
-abbrev pub networkNo : ℕ → Network
-networkNo n = record { 0 = n }
-
 -- The network that a field is found to write.
 unfoldable pub foundNetwork : List ℕ → FoundNetwork
-foundNetwork x = cond (isNetwork x) (IsNetwork (networkNo (networkOf x))) NoNetwork
+foundNetwork x = cond (isNetwork x) (IsNetwork (asNetwork (networkOf x))) NoNetwork

@@ -20,7 +20,7 @@ use Rattle.tables.specs.declared.Tables.{Tables}
 use Rattle.tables.specs.Cells.{relationsOfTables, TablesOk}
 use Rattle.tables.specs.Relations.{StallsRows}
 use Rattle.tables.proofs.InRange.{relations-accepted, rows-stalls}
-use Rattle.verdicts.specs.Numbers.{asMessage}
+use Rattle.rules.specs.Numbers.{asMessage}
 use Rattle.verdicts.specs.Verdicts.{WaitsOf, MessagesPast, Fitting, Unfitting}
 use Rattle.waits.specs.steps.Steps.{StepsRows}
 use Rattle.verdicts.specs.judgement.Judging.{StepsTold, JudgementOfRows}

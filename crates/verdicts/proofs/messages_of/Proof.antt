@@ -2,7 +2,7 @@
 use Prim.Native.Nat.{_-_}
 use native.Mathlib.Omega.{arith}
 use borrow.Author.Needs.{needs}
-use Rattle.verdicts.specs.Numbers.{asMessage}
+use Rattle.rules.specs.Numbers.{asMessage}
 use Rattle.verdicts.proofs.Turning.{Turned, turned-none, turned-more, turned-all}
 use Rattle.verdicts.proofs.messages_of.Statement.{statement}
 use Rattle.verdicts.proofs.messages_of.Tie as tie
