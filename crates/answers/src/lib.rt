@@ -6,7 +6,7 @@ ghost use Rattle.answers.specs.Answers.{refusedAt, noRoom, finished, Sma
 use papers::Refusal;
 
 // Room for whatever a program prints.
-pub const PRINTED: usize = 2048;
+pub const PRINTED: usize = 4096;
 
 // What a program prints: so many bytes at the front.
 pub struct PrintedBytes {

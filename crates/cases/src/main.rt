@@ -105,14 +105,14 @@ fn print_number(number: usize) {
 }
 
 // A blank, and a row after it.
-fn print_row(row: u32) {
+fn print_row(row: u64) {
     io::write_all(1, b" ");
-    io::print_hex(1, row as u64, 1);
+    io::print_hex(1, row, 1);
 }
 
 // The rows of the messages.
-fn print_rows(rows: [u32; tables::MESSAGES], count: usize)
-    requires { ⌜ count ≤ 32 ⌝ }
+fn print_rows(rows: [u64; tables::MESSAGES], count: usize)
+    requires { ⌜ count ≤ 64 ⌝ }
 {
     let mut i: usize = 0;
     while i < count {
@@ -123,7 +123,7 @@ fn print_rows(rows: [u32; tables::MESSAGES], count: usize)
 
 // The networks of the messages.
 fn print_networks(networks: [Network; tables::MESSAGES], count: usize)
-    requires { ⌜ count ≤ 32 ⌝ }
+    requires { ⌜ count ≤ 64 ⌝ }
 {
     let mut i: usize = 0;
     while i < count {
@@ -170,7 +170,7 @@ fn print_reading(r: Reading)
 
 // What the mapping reader answers, of so many messages.
 fn print_mapped(m: Mapped, count: usize)
-    requires { ⌜ count ≤ 32 ⌝ }
+    requires { ⌜ count ≤ 64 ⌝ }
 {
     let networks = m.networks;
     if m.refusal.number == 0 {
@@ -203,7 +203,7 @@ fn protocol_of(n: usize) -> Reading
 
 // As many bytes of the input as there is room, as a mapping text of the first messages.
 fn mapping_in(room: &mut [u8], messages: [MessageRow; tables::MESSAGES], count: usize) -> Mapped
-    requires { ⌜ count ≤ 32 ⌝ }
+    requires { ⌜ count ≤ 64 ⌝ }
 {
     let got = io::read_full(0, room);
     mapping::read_mapping(&room[..got], messages, count)
@@ -211,7 +211,7 @@ fn mapping_in(room: &mut [u8], messages: [MessageRow; tables::MESSAGES], count: 
 
 // The next n bytes as a mapping text of the first messages.
 fn mapping_of(n: usize, messages: [MessageRow; tables::MESSAGES], count: usize) -> Mapped
-    requires { ⌜ (n ≤ 65536) × (count ≤ 32) ⌝ }
+    requires { ⌜ (n ≤ 65536) × (count ≤ 64) ⌝ }
 {
     let mut text = io::large_buffer();
     mapping_in(&mut text[..n], messages, count)

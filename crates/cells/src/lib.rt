@@ -79,7 +79,7 @@ pub fn cell_line(
     cells: [Cell; tables::CELLS],
     count: usize,
 ) -> CellLine
-    requires { ⌜ FieldsAre (now line) f × (says (split 9 (now line)) 0 cellWord ≡ true) × («message_count» ≤ 32) × («event_count» ≤ 8) × («state_count» ≤ 64) × (count ≤ 512) ⌝ }
+    requires { ⌜ FieldsAre (now line) f × (says (split 9 (now line)) 0 cellWord ≡ true) × («message_count» ≤ 64) × («event_count» ≤ 8) × («state_count» ≤ 64) × (count ≤ 512) ⌝ }
     ensures { λ r. ⌜ CellTold nth (now (line .entry)) messages «message_count» events «event_count» states «state_count» cells count r ⌝ }
 {
     let shape = crate::shapes::shape_of(line, f);

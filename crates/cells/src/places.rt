@@ -51,7 +51,7 @@ fn trigger_at(
     events: [EventRow; tables::EVENTS],
     event_count: usize,
 ) -> FoundTrigger
-    requires { ⌜ («message_count» ≤ 32) × («event_count» ≤ 8) ⌝ }
+    requires { ⌜ («message_count» ≤ 64) × («event_count» ≤ 8) ⌝ }
     ensures { λ r. ⌜ TriggerTold (now (part .entry)) whose messages «message_count» events «event_count» r ⌝ }
 {
     let found = tables::names::message_named(messages, message_count, part);
@@ -76,7 +76,7 @@ pub(crate) fn place_of(
     states: [StateRow; tables::STATES],
     state_count: usize,
 ) -> Place
-    requires { ⌜ FieldsAre (now line) f × (5 ≤ f .count) × («message_count» ≤ 32) × («event_count» ≤ 8) × («state_count» ≤ 64) ⌝ }
+    requires { ⌜ FieldsAre (now line) f × (5 ≤ f .count) × («message_count» ≤ 64) × («event_count» ≤ 8) × («state_count» ≤ 64) ⌝ }
     ensures { λ r. ⌜ PlaceTold (split 9 (now (line .entry))) whose messages «message_count» events «event_count» states «state_count» r ⌝ }
 {
     let own = lines::field_at(line, f, 2);

@@ -66,7 +66,7 @@ pub(crate) fn stall_of(
     states: [StateRow; tables::STATES],
     state_count: usize,
 ) -> CellReading
-    requires { ⌜ FieldsAre (now line) f × StallLine (split 9 (now line)) whose × («message_count» ≤ 32) × («event_count» ≤ 8) × («state_count» ≤ 64) ⌝ }
+    requires { ⌜ FieldsAre (now line) f × StallLine (split 9 (now line)) whose × («message_count» ≤ 64) × («event_count» ≤ 8) × («state_count» ≤ 64) ⌝ }
     ensures { λ r. ⌜ CellRead (split 9 (now (line .entry))) messages «message_count» events «event_count» states «state_count» r ⌝ }
 {
     let at = crate::places::place_of(
@@ -113,7 +113,7 @@ pub(crate) fn go_of(
     states: [StateRow; tables::STATES],
     state_count: usize,
 ) -> CellReading
-    requires { ⌜ FieldsAre (now line) f × GoLine (split 9 (now line)) whose × («message_count» ≤ 32) × («event_count» ≤ 8) × («state_count» ≤ 64) ⌝ }
+    requires { ⌜ FieldsAre (now line) f × GoLine (split 9 (now line)) whose × («message_count» ≤ 64) × («event_count» ≤ 8) × («state_count» ≤ 64) ⌝ }
     ensures { λ r. ⌜ CellRead (split 9 (now (line .entry))) messages «message_count» events «event_count» states «state_count» r ⌝ }
 {
     let at = crate::places::place_of(

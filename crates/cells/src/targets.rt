@@ -35,7 +35,7 @@ fn sent_of(
     messages: [MessageRow; tables::MESSAGES],
     message_count: usize,
 ) -> Sent
-    requires { ⌜ FieldsAre (now line) f × (6 ≤ f .count) × (f .count ≤ 14) × («message_count» ≤ 32) ⌝ }
+    requires { ⌜ FieldsAre (now line) f × (6 ≤ f .count) × (f .count ≤ 14) × («message_count» ≤ 64) ⌝ }
     ensures { λ r. ⌜ SentTold (sentFields (split 9 (now (line .entry)))) messages «message_count» r ⌝ }
 {
     let n = f.count - 6;
@@ -73,7 +73,7 @@ pub(crate) fn target_of(
     states: [StateRow; tables::STATES],
     state_count: usize,
 ) -> Target
-    requires { ⌜ FieldsAre (now line) f × (6 ≤ f .count) × (f .count ≤ 14) × («message_count» ≤ 32) × («state_count» ≤ 64) ⌝ }
+    requires { ⌜ FieldsAre (now line) f × (6 ≤ f .count) × (f .count ≤ 14) × («message_count» ≤ 64) × («state_count» ≤ 64) ⌝ }
     ensures { λ r. ⌜ TargetTold (split 9 (now (line .entry))) whose messages «message_count» states «state_count» r ⌝ }
 {
     let to = lines::field_at(line, f, 5);

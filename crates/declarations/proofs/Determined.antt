@@ -58,7 +58,7 @@ state-line-determined k line states count r s p q =
     same why (rows-same (r .refusal .number) (s .refusal .number) (one-number why) (r .row) (s .row) (stateOf (split 9 line)) noState (p .row) (p .cleared) (q .row) (q .cleared))
   where
     t : Tables
-    t = tablesOf (replicate 32 noMessage) 0 (replicate 8 noEvent) 0 states count
+    t = tablesOf (replicate 64 noMessage) 0 (replicate 8 noEvent) 0 states count
 
     all : States t states count
     all = record { rows = refl; many = refl; no-cell = refl }

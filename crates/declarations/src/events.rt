@@ -65,7 +65,7 @@ pub fn event_line(
     events: [EventRow; tables::EVENTS],
     count: usize,
 ) -> EventLine
-    requires { ⌜ FieldsAre (now line) f × (says (split 9 (now line)) 0 eventWord ≡ true) × («message_count» ≤ 32) × (count ≤ 8) ⌝ }
+    requires { ⌜ FieldsAre (now line) f × (says (split 9 (now line)) 0 eventWord ≡ true) × («message_count» ≤ 64) × (count ≤ 8) ⌝ }
     ensures { λ r. ⌜ EventTold nth (now (line .entry)) messages «message_count» events count r ⌝ }
 {
     if !lines::shapes::event_shape(line, f) {

@@ -47,7 +47,7 @@ pub fn message_line(
     messages: [MessageRow; tables::MESSAGES],
     count: usize,
 ) -> MessageLine
-    requires { ⌜ FieldsAre (now line) f × (says (split 9 (now line)) 0 messageWord ≡ true) × (count ≤ 32) ⌝ }
+    requires { ⌜ FieldsAre (now line) f × (says (split 9 (now line)) 0 messageWord ≡ true) × (count ≤ 64) ⌝ }
     ensures { λ r. ⌜ MessageTold nth (now (line .entry)) messages count r ⌝ }
 {
     let FoundKind::Is(kind) = lines::shapes::message_shape(line, f) else {

@@ -38,7 +38,7 @@ pub(crate) fn message_declared(
     messages: [MessageRow; tables::MESSAGES],
     count: usize,
 ) -> bool
-    requires { ⌜ FieldsAre (now line) f × (i < f .count) × (count ≤ 32) ⌝ }
+    requires { ⌜ FieldsAre (now line) f × (i < f .count) × (count ≤ 64) ⌝ }
     ensures { λ r. ⌜ r ≡ messageDeclared messages count (field (split 9 (now (line .entry))) i) ⌝ }
 {
     let found = tables::names::message_named(messages, count, lines::field_at(line, f, i));

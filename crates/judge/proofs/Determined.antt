@@ -112,8 +112,8 @@ printed-determined x y old new₁ new₂ j k v w =
     same false e = let n = eqb-false (readProtocol x .refusal .number) 0 e in w .protocol-refused n ∙ sym (v .protocol-refused n)
 
 -- by value
-pub print-determined : (protocol mapping : List ℕ) → Determines (λ (r : PrintedBytes). JudgePrinted protocol mapping (replicate 2048 0) (r .bytes) (r .length))
-print-determined x y r s v w = let q = printed-determined x y (replicate 2048 0) (r .bytes) (s .bytes) (r .length) (s .length) v w in same (q .0) (q .1)
+pub print-determined : (protocol mapping : List ℕ) → Determines (λ (r : PrintedBytes). JudgePrinted protocol mapping (replicate 4096 0) (r .bytes) (r .length))
+print-determined x y r s v w = let q = printed-determined x y (replicate 4096 0) (r .bytes) (s .bytes) (r .length) (s .length) v w in same (q .0) (q .1)
   where
     same : {m n : ℕ} {a b : List ℕ} → m ≡ n → a ≡ b → _≡_ {A = PrintedBytes} (record { bytes = a; length = m }) (record { bytes = b; length = n })
     same e f = cc

@@ -41,10 +41,10 @@ all-length p φ [] ss s = absurd s
 all-length p φ (a ∷ l) ss s = omega (arith, shows-length p φ a (l ++ (a ∷ [])) ss s, length-append l (a ∷ []))
 
 -- the shown cycle has no message twice
-cycle-small : (p : Relations) → Accepted p → p .count ≤ 32 → (φ : Mapping) (c : List MessageNo) → JudgeCycle p φ c → length c ≤ 32
+cycle-small : (p : Relations) → Accepted p → p .count ≤ 64 → (φ : Mapping) (c : List MessageNo) → JudgeCycle p φ c → length c ≤ 64
 cycle-small p acc most φ c s = go (every-judgement p acc φ)
   where
-    go : Fit p φ ⊎ (Unfit p φ × (ms : List MessageNo) × JudgeCycle p φ ms × (length ms ≤ p .count)) → length c ≤ 32
+    go : Fit p φ ⊎ (Unfit p φ × (ms : List MessageNo) × JudgeCycle p φ ms × (length ms ≤ p .count)) → length c ≤ 64
     go (inl f) = absurd (f (shown-is-real p .1 φ c s))
     go (inr q) = omega (arith, most, q .3, ap length (determined .judge-cycle p φ c (q .1) s (q .2)))
 

@@ -12,7 +12,7 @@ use Rattle.judge.specs.Call.{JudgeListing, JudgeCall}
 abbrev pub JudgeLength : Type 0
 JudgeLength =
     (protocol listing : List ℕ) (φ : Mapping) → readProtocol protocol .refusal .number ≡ 0 →
-    JudgeListing (readProtocol protocol .tables) φ listing → length listing ≤ 2001
+    JudgeListing (readProtocol protocol .tables) φ listing → length listing ≤ 3985
 
 -- So every number of an answer has its place in the packed number.
 abbrev pub JudgeSmall : Type 0

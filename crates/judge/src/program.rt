@@ -6,7 +6,7 @@ use answers::PrintedBytes;
 
 // What the judging program prints, at the front of out. There is room for the longest answer within the limits.
 fn put_judgement(protocol: &[u8], mapping: &[u8], out: &mut [u8]) -> usize
-    requires { ⌜ 2048 ≤ length (now out) ⌝ }
+    requires { ⌜ 4096 ≤ length (now out) ⌝ }
     ensures { λ r. ⌜ JudgePrinted (now (protocol .entry)) (now (mapping .entry)) (now (out .entry)) (now (out .exit)) r ⌝ }
 {
     let a = crate::judge(protocol, mapping, out);
@@ -18,7 +18,7 @@ fn put_judgement(protocol: &[u8], mapping: &[u8], out: &mut [u8]) -> usize
 
 // What the judging program prints. It asks nothing: the room is its own.
 pub fn print_judgement(protocol: &[u8], mapping: &[u8]) -> PrintedBytes
-    ensures { λ r. ⌜ JudgePrinted (now (protocol .entry)) (now (mapping .entry)) (replicate 2048 0) (r .bytes) (r .length) ⌝ }
+    ensures { λ r. ⌜ JudgePrinted (now (protocol .entry)) (now (mapping .entry)) (replicate 4096 0) (r .bytes) (r .length) ⌝ }
 {
     let mut bytes = [0u8; answers::PRINTED];
     let n = put_judgement(protocol, mapping, &mut bytes);

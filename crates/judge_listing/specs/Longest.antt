@@ -6,6 +6,6 @@ use Rattle.tables.specs.declared.MessageRow.{MessageRow}
 use Rattle.plan_listing.specs.Lengths.{ShortNames}
 use Rattle.judge_listing.specs.JudgeText.{ShownStep, unfitText}
 
--- The header and `unfit` take 17 bytes, each of at most 32 steps at most 62.
+-- The header and `unfit` take 17 bytes, each of at most 64 steps at most 62.
 abbrev pub LongestUnfit : Type 0
-LongestUnfit = (rows : List MessageRow) (steps : List ShownStep) → ShortNames rows → length steps ≤ 32 → length (unfitText rows steps) ≤ 2001
+LongestUnfit = (rows : List MessageRow) (steps : List ShownStep) → ShortNames rows → length steps ≤ 64 → length (unfitText rows steps) ≤ 3985

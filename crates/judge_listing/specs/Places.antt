@@ -10,10 +10,10 @@ use Rattle.rules.specs.Plan.{Word}
 use Rattle.plan_listing.specs.PlanText.{firstMessages, MessagesBelow}
 use Rattle.judge_listing.specs.JudgeText.{ShownStep, stepOf, stepsAround, wordIn}
 
--- A closed walk as it is given: 1 to 32 messages, each with a row in the tables.
+-- A closed walk as it is given: 1 to 64 messages, each with a row in the tables.
 pub record GivenWalk (count : ℕ) (cycle : List Message) : Type 0 where
   pub some : 0 < count
-  pub few : count ≤ 32
+  pub few : count ≤ 64
   pub messages : MessagesBelow count (firstMessages count cycle)
 
 -- The steps of the walk, their words by the rows of waits.

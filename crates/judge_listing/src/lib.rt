@@ -40,7 +40,7 @@ pub(crate) fn put_verdict(out: &mut [u8], verdict: &[u8]) -> usize
 
 // The name of a message.
 fn message_name(messages: [MessageRow; tables::MESSAGES], m: Message) -> Name
-    requires { ⌜ m .0 < 32 ⌝ }
+    requires { ⌜ m .0 < 64 ⌝ }
     ensures { λ r. ⌜ nameText r ≡ nameAt messages (m .0) ⌝ }
 {
     let row = messages[m.index()];
@@ -63,7 +63,7 @@ fn step_at(
     messages: [MessageRow; tables::MESSAGES],
     cycle: [Message; tables::MESSAGES],
     count: usize,
-    waits: [u32; tables::MESSAGES],
+    waits: [u64; tables::MESSAGES],
     i: usize,
 ) -> NamedStep
     requires { ⌜ GivenWalk count cycle × (i < count) ⌝ }
@@ -84,7 +84,7 @@ fn unfit_length(
     messages: [MessageRow; tables::MESSAGES],
     cycle: [Message; tables::MESSAGES],
     count: usize,
-    waits: [u32; tables::MESSAGES],
+    waits: [u64; tables::MESSAGES],
 ) -> usize
     requires { ⌜ GivenWalk count cycle ⌝ }
     ensures { λ r. ⌜ r ≡ length (unfitText messages (walkSteps waits count cycle)) ⌝ }
@@ -105,7 +105,7 @@ fn more_steps(
     messages: [MessageRow; tables::MESSAGES],
     cycle: [Message; tables::MESSAGES],
     count: usize,
-    waits: [u32; tables::MESSAGES],
+    waits: [u64; tables::MESSAGES],
 ) -> usize
     requires { ⌜ GivenWalk count cycle × (start + length (stepTexts messages (walkSteps waits count cycle)) ≤ length (now out)) ⌝ }
     ensures { λ r. ⌜ Pasted (stepTexts messages (walkSteps waits count cycle)) start (now (out .entry)) (now (out .exit)) r ⌝ }
@@ -125,7 +125,7 @@ pub fn unfit_listing(
     messages: [MessageRow; tables::MESSAGES],
     cycle: [Message; tables::MESSAGES],
     count: usize,
-    waits: [u32; tables::MESSAGES],
+    waits: [u64; tables::MESSAGES],
     out: &mut [u8],
 ) -> Answer
     requires { ⌜ GivenWalk count cycle ⌝ }

@@ -91,10 +91,10 @@ twice state t f = isState t (controllerOf (field f 1)) (field f 2)
 twice cell t f = false
 twice unknown t f = false
 
--- ---- 9 FULL: "one more than a limit". "32 messages, 8 events, 64 states over both controllers, 512 cells."
+-- ---- 9 FULL: "one more than a limit". "32 messages, 8 events, 64 states over both controllers, 512 cells."; by C-15 "raise messages to 64".
 
 abbrev pub full : Section → Tables → Bool
-full message t = leb 32 (t .«message_count»)
+full message t = leb 64 (t .«message_count»)
 full event t = leb 8 (t .«event_count»)
 full state t = leb 64 (t .«state_count»)
 full cell t = leb 512 (t .«cell_count»)

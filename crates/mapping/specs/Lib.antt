@@ -1,3 +1,4 @@
+pub mod Headers
 pub mod Reading
 pub mod Text
 pub mod networks

@@ -6,13 +6,13 @@ use lib.ListN.{length, drop, replicate}
 use lib.Dec.{eqb}
 use Rattle.text.specs.Parts.{split, lines}
 use Rattle.rules.specs.Numbers.{asNetwork}
-use Rattle.text.specs.Words.{mappingHeader}
 use Rattle.papers.specs.declared.Refusal.{Refusal}
 use Rattle.papers.specs.Checks.{refusal, none}
 use Rattle.papers.specs.Opening.{openingOf}
 use Rattle.tables.specs.declared.MessageRow.{MessageRow}
 use Rattle.mapping.specs.networks.Networks.{networkOf}
 use Rattle.text.specs.Line.{field}
+use Rattle.mapping.specs.Headers.{Header, headerOf}
 use Rattle.mapping.specs.lines.Line.{mapRefusal}
 use Rattle.mapping.specs.declared.Mapped.{Mapped}
 
@@ -20,10 +20,10 @@ use Rattle.mapping.specs.declared.Mapped.{Mapped}
 
 -- Networks past the last message are 0.
 abbrev pub mapsAccepted : List ℕ → Mapped
-mapsAccepted ns = record { refusal = none; networks = map asNetwork (ns ++ replicate (32 - length ns) 0) }
+mapsAccepted ns = record { refusal = none; networks = map asNetwork (ns ++ replicate (64 - length ns) 0) }
 
 abbrev pub mapsRefused : Refusal → Mapped
-mapsRefused r = record { refusal = r; networks = replicate 32 (asNetwork 0) }
+mapsRefused r = record { refusal = r; networks = replicate 64 (asNetwork 0) }
 
 -- The answer, where nothing is refused.
 abbrev pub mapsUnless : Refusal → Mapped → Mapped
@@ -34,15 +34,19 @@ abbrev pub endOf : List MessageRow → ℕ → List ℕ → Mapped
 endOf [] k ns = mapsAccepted ns
 endOf (m ∷ next) k ns = mapsRefused (refusal 14 k)
 
--- The lines from line k on: `next` have no line yet, and ns are the networks of the messages before them.
-unfoldable pub readMaps : ℕ → List (List ℕ) → List MessageRow → List ℕ → Mapped
-readMaps k [] next ns = endOf next k ns
-readMaps k (l ∷ ls) next ns =
-    let rest = readMaps (suc k) ls (drop 1 next) (ns ++ (networkOf (field (split 9 l) 2) ∷ [])) in
-    mapsUnless (mapRefusal next k (split 9 l)) rest
+-- The lines from line k on, under a header that allows `most` of them: `next` have no line yet, and ns are the networks of the messages before them,
+-- as many as there were lines.
+unfoldable pub readMaps : ℕ → ℕ → List (List ℕ) → List MessageRow → List ℕ → Mapped
+readMaps most k [] next ns = endOf next k ns
+readMaps most k (l ∷ ls) next ns =
+    let rest = readMaps most (suc k) ls (drop 1 next) (ns ++ (networkOf most (field (split 9 l) 2) ∷ [])) in
+    mapsUnless (mapRefusal most (length ns) next k (split 9 l)) rest
 
 -- The order: 1, 2, 3, then the first bad line. The messages are those of the protocol.
+abbrev pub readUnder : Header → List MessageRow → List ℕ → Mapped
+readUnder header messages text =
+    let body = readMaps (header .most) 2 (drop 1 (lines text)) messages [] in
+    mapsUnless (openingOf (header .line) text) body
+
 unfoldable pub readMapping : List MessageRow → List ℕ → Mapped
-readMapping messages text =
-    let body = readMaps 2 (drop 1 (lines text)) messages [] in
-    mapsUnless (openingOf mappingHeader text) body
+readMapping messages text = readUnder (headerOf text) messages text

@@ -13,6 +13,11 @@ use papers::Refusal;
 use rules::Network;
 use tables::MessageRow;
 
+// How many `map` lines each of the two headers allows, and how many networks there are under it.
+const FIRST_MOST: usize = 32;
+
+const SECOND_MOST: usize = 64;
+
 // What reading a mapping gives: the network of each message, or why and where it is refused.
 pub struct Mapped {
     pub refusal: Refusal,
@@ -29,15 +34,16 @@ fn refuse(why: Refusal) -> Mapped
     }
 }
 
-// The map lines from a place on. The line of message i is line i + 2.
+// The map lines from a place on, of which the header allows `most`. The line of message i is line i + 2.
 fn map_lines(
     text: &[u8],
     from: usize,
     messages: [MessageRow; tables::MESSAGES],
     count: usize,
+    most: usize,
 ) -> Mapped
-    requires { ⌜ Lined (now text) from × (count ≤ 32) ⌝ }
-    ensures { λ r. ⌜ r ≡ readMaps 2 (lines (drop from (now (text .entry)))) (take count messages) [] ⌝ }
+    requires { ⌜ Lined (now text) from × (count ≤ 64) × (10 ≤ most) × (most ≤ 64) ⌝ }
+    ensures { λ r. ⌜ r ≡ readMaps most 2 (lines (drop from (now (text .entry)))) (take count messages) [] ⌝ }
 {
     let n = text.len();
     let mut networks = [Network(0); tables::MESSAGES];
@@ -52,6 +58,12 @@ fn map_lines(
                 line: nth,
             });
         }
+        if i == most {
+            return refuse(Refusal {
+                number: papers::FULL,
+                line: nth,
+            });
+        }
         if i == count {
             return refuse(Refusal {
                 number: papers::UNMATCHED,
@@ -59,7 +71,7 @@ fn map_lines(
             });
         }
         let row = messages[i];
-        let line = crate::lines::map_line(&text[at..e], nth, row);
+        let line = crate::lines::map_line(&text[at..e], nth, row, most);
         if line.refusal.number != 0 {
             return refuse(line.refusal);
         }
@@ -81,15 +93,19 @@ fn map_lines(
     }
 }
 
-// The networks of the messages, which are the first `count` rows, as the text gives them.
+// The networks of the messages, which are the first `count` rows, as the text gives them under its header.
 pub fn read_mapping(text: &[u8], messages: [MessageRow; tables::MESSAGES], count: usize) -> Mapped
-    requires { ⌜ count ≤ 32 ⌝ }
+    requires { ⌜ count ≤ 64 ⌝ }
     ensures { λ r. ⌜ r ≡ readMapping (take count messages) (now (text .entry)) ⌝ }
 {
+    let e = text::find(text, 10, 0, text.len());
+    let second = papers::opening(&text::words::MAPPING_HEADER_2, text);
+    if second.number == 0 {
+        return map_lines(text, e + 1, messages, count, SECOND_MOST);
+    }
     let opening = papers::opening(&text::words::MAPPING_HEADER, text);
     if opening.number != 0 {
         return refuse(opening);
     }
-    let e = text::find(text, 10, 0, text.len());
-    map_lines(text, e + 1, messages, count)
+    map_lines(text, e + 1, messages, count, FIRST_MOST)
 }

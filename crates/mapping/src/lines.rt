@@ -1,6 +1,7 @@
 // One line of a mapping: its shape, and what it gives.
 ghost use mathlib.Core.Path.{_≡_};
 ghost use mathlib.Core.Bool.{true};
+ghost use Prim.Native.Nat.{_≤_};
 ghost use Rattle.text.specs.Parts.{split};
 ghost use Rattle.papers.specs.Checks.{refusal};
 ghost use Rattle.mapping.specs.lines.Line.{mapShaped, MapTold};
@@ -43,10 +44,10 @@ fn no_network(number: u8, nth: usize) -> MapLine
     }
 }
 
-// What the nth line, which is shaped, gives where it is the turn of this message.
-pub(crate) fn map_line(line: &[u8], nth: usize, row: MessageRow) -> MapLine
-    requires { ⌜ mapShaped (split 9 (now line)) ≡ true ⌝ }
-    ensures { λ r. ⌜ MapTold nth row (split 9 (now (line .entry))) r ⌝ }
+// What the nth line, which is shaped, gives where it is the turn of this message. There are `most` networks.
+pub(crate) fn map_line(line: &[u8], nth: usize, row: MessageRow, most: usize) -> MapLine
+    requires { ⌜ (mapShaped (split 9 (now line)) ≡ true) × (10 ≤ most) × (most ≤ 64) ⌝ }
+    ensures { λ r. ⌜ MapTold most nth row (split 9 (now (line .entry))) r ⌝ }
 {
     let fields = text::line_fields::fields_of(line, 0, line.len());
     let starts = fields.from;
@@ -59,7 +60,7 @@ pub(crate) fn map_line(line: &[u8], nth: usize, row: MessageRow) -> MapLine
     if !text::names::named(name, &line[a..e]) {
         return no_network(papers::UNMATCHED, nth);
     }
-    let FoundNetwork::Is(network) = crate::networks::network_of(&line[s..t]) else {
+    let FoundNetwork::Is(network) = crate::networks::network_of(&line[s..t], most) else {
         return no_network(papers::NETWORK, nth);
     };
     MapLine {

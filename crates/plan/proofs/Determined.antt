@@ -74,8 +74,8 @@ printed-determined text old new₁ new₂ j k v w =
     same false e = let n = eqb-false (readProtocol text .refusal .number) 0 e in w .refused n ∙ sym (v .refused n)
 
 -- by value
-pub print-determined : (text : List ℕ) → Determines (λ (r : PrintedBytes). PlanPrinted text (replicate 2048 0) (r .bytes) (r .length))
-print-determined text r s v w = let q = printed-determined text (replicate 2048 0) (r .bytes) (s .bytes) (r .length) (s .length) v w in same (q .0) (q .1)
+pub print-determined : (text : List ℕ) → Determines (λ (r : PrintedBytes). PlanPrinted text (replicate 4096 0) (r .bytes) (r .length))
+print-determined text r s v w = let q = printed-determined text (replicate 4096 0) (r .bytes) (s .bytes) (r .length) (s .length) v w in same (q .0) (q .1)
   where
     same : {m n : ℕ} {a b : List ℕ} → m ≡ n → a ≡ b → _≡_ {A = PrintedBytes} (record { bytes = a; length = m }) (record { bytes = b; length = n })
     same e f = cc

@@ -52,10 +52,10 @@ module _ (t : Tables) (v : PlanFound) (is : PlanIs (relationsOfTables t) v) wher
       }
 
   -- what the listings ask for
-  pub three-asked : v .count ≢ 0 → v .count ≤ 32
+  pub three-asked : v .count ≢ 0 → v .count ≤ 64
   three-asked h = three h .few
 
-  pub two-asked : v .count ≡ 0 → (v .«cycle_length» ≤ 32) × MessagesBelow (v .«cycle_length») (firstMessages (v .«cycle_length») (v .cycle))
+  pub two-asked : v .count ≡ 0 → (v .«cycle_length» ≤ 64) × MessagesBelow (v .«cycle_length») (firstMessages (v .«cycle_length») (v .cycle))
   two-asked h = (two h .stored .few, two h .stored .messages)
 
 -- ---- the call

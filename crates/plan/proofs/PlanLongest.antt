@@ -31,36 +31,36 @@ use Rattle.plan_listing.proofs.Longest.{longest-maps, longest-cycle}
 use Rattle.plan.specs.Call.{PlanListing}
 use Rattle.plan.specs.Longest.{PlanLength, PlanSmall}
 
--- ---- relations of at most 32 messages
+-- ---- relations of at most so many messages
 
-module _ (p : Relations) (acc : Accepted p) (most : p .count ≤ 32) where
+module _ (p : Relations) (acc : Accepted p) (most : ℕ) (few : p .count ≤ most) where
   abbrev Class : Type 0
   Class = (WaitsCycle p × (l : List MessageNo) × PlanCycle p l × (length l ≤ p .count)) ⊎ ((¬ WaitsCycle p) × GoodPlan p)
 
   module _ (k : ℕ) (least : LeastCount p k) where
-    -- the printed networks are below 32
-    pub networks-below : (ns : List ℕ) → length ns ≡ p .count → Printed p (λ m. getD ns m 0) → (i : ℕ) → i < length ns → getD ns i 0 < 32
+    -- the printed networks are below that
+    pub networks-below : (ns : List ℕ) → length ns ≡ p .count → Printed p (λ m. getD ns m 0) → (i : ℕ) → i < length ns → getD ns i 0 < most
     networks-below ns long printed i h = go (every-plan p acc)
       where
-        go : Class → getD ns i 0 < 32
+        go : Class → getD ns i 0 < most
         go (inl q) = absurd (one-class p (q .1) k (q .2) least)
         go (inr q) =
-            omega (arith, most, q .1 .networks-small i (omega (arith, h, long)), determined .mapping p (λ m. getD ns m 0) (q .1 .mapping) printed (q .1 .printed) i (omega (arith, h, long)))
+            omega (arith, few, q .1 .networks-small i (omega (arith, h, long)), determined .mapping p (λ m. getD ns m 0) (q .1 .mapping) printed (q .1 .printed) i (omega (arith, h, long)))
 
     -- and so many networks there are at most
-    count-small : k ≤ 32
+    count-small : k ≤ most
     count-small = go (every-plan p acc)
       where
-        go : Class → k ≤ 32
+        go : Class → k ≤ most
         go (inl q) = absurd (one-class p (q .1) k (q .2) least)
-        go (inr q) = omega (arith, most, q .1 .small, determined .least-count p k (q .1 .number) least (q .1 .least))
+        go (inr q) = omega (arith, few, q .1 .small, determined .least-count p k (q .1 .number) least (q .1 .least))
 
   -- the shown cycle has no message twice
-  cycle-small : (l : List MessageNo) → PlanCycle p l → length l ≤ 32
+  cycle-small : (l : List MessageNo) → PlanCycle p l → length l ≤ most
   cycle-small l c = go (every-plan p acc)
     where
-      go : Class → length l ≤ 32
-      go (inl q) = omega (arith, most, q .3, ap length (determined .plan-cycle p l (q .1) c (q .2)))
+      go : Class → length l ≤ most
+      go (inl q) = omega (arith, few, q .3, ap length (determined .plan-cycle p l (q .1) c (q .2)))
       go (inr q) = absurd (one-class p l (q .1 .number) c (q .1 .least))
 
 -- ---- the rows of messages
@@ -85,21 +85,21 @@ plan-length text listing e l = go l
     rows : Named (readProtocol text .tables)
     rows = names-kept text e
 
-    few : readProtocol text .tables .«message_count» ≤ 32
+    few : readProtocol text .tables .«message_count» ≤ 64
     few = good .kept .ok .messages
 
-    go : PlanListing (readProtocol text .tables) listing → length listing ≤ 1054
+    go : PlanListing (readProtocol text .tables) listing → length listing ≤ 2078
     go (inl w) =
         let n = readProtocol text .tables .«message_count» in
         let ms = readProtocol text .tables .messages in
         let long = length-take-le n ms (omega (arith, few, rows .long)) in
         let most = longest-maps (messagesOf (readProtocol text .tables)) (w .networks) (w .count) (first-short ms n (rows .short) (omega (arith, few, rows .long)))
-        (omega (arith, long, few)) (networks-below (relationsOfTables (readProtocol text .tables)) (good .relations) few (w .count) (w .least) (w .networks) (w .long) (w .printed))
-        (count-small (relationsOfTables (readProtocol text .tables)) (good .relations) few (w .count) (w .least)) in
+        (omega (arith, long, few)) (networks-below (relationsOfTables (readProtocol text .tables)) (good .relations) 64 few (w .count) (w .least) (w .networks) (w .long) (w .printed))
+        (count-small (relationsOfTables (readProtocol text .tables)) (good .relations) 64 few (w .count) (w .least)) in
         omega (arith, ap length (w .is), most)
     go (inr w) =
         let most = longest-cycle (readProtocol text .tables .messages) (w .cycle) (rows .short)
-        (cycle-small (relationsOfTables (readProtocol text .tables)) (good .relations) few (w .cycle) (w .shown)) in
+        (cycle-small (relationsOfTables (readProtocol text .tables)) (good .relations) 64 few (w .cycle) (w .shown)) in
         omega (arith, ap length (w .is), most)
 
 -- ---- the answer

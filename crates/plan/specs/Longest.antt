@@ -9,7 +9,7 @@ use Rattle.answers.specs.Answers.{Small}
 use Rattle.plan.specs.Call.{PlanListing, PlanCall}
 
 abbrev pub PlanLength : Type 0
-PlanLength = (text listing : List ℕ) → readProtocol text .refusal .number ≡ 0 → PlanListing (readProtocol text .tables) listing → length listing ≤ 1054
+PlanLength = (text listing : List ℕ) → readProtocol text .refusal .number ≡ 0 → PlanListing (readProtocol text .tables) listing → length listing ≤ 2078
 
 -- So every number of an answer has its place in the packed number.
 abbrev pub PlanSmall : Type 0

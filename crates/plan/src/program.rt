@@ -6,7 +6,7 @@ use answers::PrintedBytes;
 
 // What the planning program prints, at the front of out. There is room for the longest answer within the limits.
 fn put_plan(text: &[u8], out: &mut [u8]) -> usize
-    requires { ⌜ 2048 ≤ length (now out) ⌝ }
+    requires { ⌜ 4096 ≤ length (now out) ⌝ }
     ensures { λ r. ⌜ PlanPrinted (now (text .entry)) (now (out .entry)) (now (out .exit)) r ⌝ }
 {
     let a = crate::plan(text, out);
@@ -18,7 +18,7 @@ fn put_plan(text: &[u8], out: &mut [u8]) -> usize
 
 // What the planning program prints. It asks nothing: the room is its own.
 pub fn print_plan(text: &[u8]) -> PrintedBytes
-    ensures { λ r. ⌜ PlanPrinted (now (text .entry)) (replicate 2048 0) (r .bytes) (r .length) ⌝ }
+    ensures { λ r. ⌜ PlanPrinted (now (text .entry)) (replicate 4096 0) (r .bytes) (r .length) ⌝ }
 {
     let mut bytes = [0u8; answers::PRINTED];
     let n = put_plan(text, &mut bytes);

@@ -90,7 +90,7 @@ abbrev pub namesTo : List MessageRow → List Message → ℕ → List ℕ
 namesTo rows cycle i = namesText rows (firstMessages i cycle)
 
 -- each message of the cycle has a row; e is what is read past the end
-pub message-below : (e : Message) (cycle : List Message) (n i : ℕ) → i < n → e .0 ≡ 0 → MessagesBelow n (firstMessages n cycle) → getD cycle i e .0 < 32
+pub message-below : (e : Message) (cycle : List Message) (n i : ℕ) → i < n → e .0 ≡ 0 → MessagesBelow n (firstMessages n cycle) → getD cycle i e .0 < 64
 unfolding firstMessages
 message-below e cycle n i h z f =
     let same : getD (map messageNumber (take n cycle)) i 0 ≡ getD cycle i e .0 =

@@ -13,10 +13,10 @@ use Rattle.plan_listing.specs.PlanText.{mapText, nameAt, namesText}
 use Rattle.plan_listing.specs.Lengths.{ShortNames, LongestMaps, LongestCycle}
 use Rattle.plan_listing.proofs.Lines.{map-text-length, class-three-length, class-two-length}
 
-two-digits : (n : ℕ) → n ≤ 32 → length (decimal n) ≤ 2
+two-digits : (n : ℕ) → n ≤ 64 → length (decimal n) ≤ 2
 two-digits n h = decimal-length 1 n (omega arith)
 
-short-maps : (ms : List MessageRow) (ns : List ℕ) → ShortNames ms → ((i : ℕ) → i < length ns → getD ns i 0 < 32)
+short-maps : (ms : List MessageRow) (ns : List ℕ) → ShortNames ms → ((i : ℕ) → i < length ns → getD ns i 0 < 64)
     → length (mapTexts ms ns) ≤ 32 * length ms
 unfolding mapTexts
 short-maps [] ns f g = omega arith

@@ -20,12 +20,12 @@ pub record TextLength (text : List ℕ) (most n : ℕ) : Type 0 where
 abbrev pub ShortNames : List MessageRow → Type 0
 ShortNames rows = (i : ℕ) → length (nameText (getD rows i noMessage .name)) ≤ 24
 
--- The lines before the messages' take at most 30 bytes, each of at most 32 messages at most 32.
+-- The lines before the messages' take at most 30 bytes, each of at most 64 messages at most 32.
 abbrev pub LongestMaps : Type 0
 LongestMaps =
-    (messages : List MessageRow) (networks : List NetworkNo) (count : ℕ) → ShortNames messages → length messages ≤ 32
-    → ((i : ℕ) → i < length networks → getD networks i 0 < 32) → count ≤ 32 → length (classThree messages networks count) ≤ 1054
+    (messages : List MessageRow) (networks : List NetworkNo) (count : ℕ) → ShortNames messages → length messages ≤ 64
+    → ((i : ℕ) → i < length networks → getD networks i 0 < 64) → count ≤ 64 → length (classThree messages networks count) ≤ 2078
 
--- The lines take 24 bytes without the names, each of at most 32 names at most 25 with its tab.
+-- The lines take 24 bytes without the names, each of at most 64 names at most 25 with its tab.
 abbrev pub LongestCycle : Type 0
-LongestCycle = (rows : List MessageRow) (cycle : List MessageNo) → ShortNames rows → length cycle ≤ 32 → length (classTwo rows cycle) ≤ 824
+LongestCycle = (rows : List MessageRow) (cycle : List MessageNo) → ShortNames rows → length cycle ≤ 64 → length (classTwo rows cycle) ≤ 1624

@@ -63,4 +63,4 @@ firstNetworks n l = map networkNumber (take n l)
 
 -- Each of the first n of these messages has a row.
 abbrev pub MessagesBelow : ℕ → List MessageNo → Type 0
-MessagesBelow n l = (i : ℕ) → i < n → getD l i 0 < 32
+MessagesBelow n l = (i : ℕ) → i < n → getD l i 0 < 64

@@ -31,8 +31,8 @@ fn names_length(
     cycle: [Message; tables::MESSAGES],
     n: usize,
 ) -> usize
-    requires { ⌜ (n ≤ 32) × MessagesBelow n (firstMessages n cycle) ⌝ }
-    ensures { λ r. ⌜ TextLength (namesText messages (firstMessages n cycle)) 800 r ⌝ }
+    requires { ⌜ (n ≤ 64) × MessagesBelow n (firstMessages n cycle) ⌝ }
+    ensures { λ r. ⌜ TextLength (namesText messages (firstMessages n cycle)) 1600 r ⌝ }
 {
     let mut total = 0;
     let mut j = 0;
@@ -63,7 +63,7 @@ fn put_names(
     cycle: [Message; tables::MESSAGES],
     n: usize,
 ) -> usize
-    requires { ⌜ (n ≤ 32) × MessagesBelow n (firstMessages n cycle) × (length (namesText messages (firstMessages n cycle)) ≤ length (now out)) ⌝ }
+    requires { ⌜ (n ≤ 64) × MessagesBelow n (firstMessages n cycle) × (length (namesText messages (firstMessages n cycle)) ≤ length (now out)) ⌝ }
     ensures { λ r. ⌜ Wrote (namesText messages (firstMessages n cycle)) (now (out .entry)) (now (out .exit)) r ⌝ }
 {
     let mut at = 0;
@@ -86,7 +86,7 @@ fn put_cycle(
     cycle: [Message; tables::MESSAGES],
     n: usize,
 ) -> usize
-    requires { ⌜ (n ≤ 32) × MessagesBelow n (firstMessages n cycle) × (length (cycleLine messages (firstMessages n cycle)) ≤ length (now out)) ⌝ }
+    requires { ⌜ (n ≤ 64) × MessagesBelow n (firstMessages n cycle) × (length (cycleLine messages (firstMessages n cycle)) ≤ length (now out)) ⌝ }
     ensures { λ r. ⌜ Wrote (cycleLine messages (firstMessages n cycle)) (now (out .entry)) (now (out .exit)) r ⌝ }
 {
     let a = text::put(out, &text::words::CYCLE);
@@ -101,7 +101,7 @@ pub fn cycle_listing(
     n: usize,
     out: &mut [u8],
 ) -> Answer
-    requires { ⌜ (n ≤ 32) × MessagesBelow n (firstMessages n cycle) ⌝ }
+    requires { ⌜ (n ≤ 64) × MessagesBelow n (firstMessages n cycle) ⌝ }
     ensures { λ r. ⌜ Listed (classTwo messages (firstMessages n cycle)) (now (out .entry)) (now (out .exit)) r ⌝ }
 {
     let needed = CYCLE_FIXED + names_length(messages, cycle, n);

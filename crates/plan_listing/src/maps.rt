@@ -52,8 +52,8 @@ fn maps_length(
     n: usize,
     networks: [Network; tables::MESSAGES],
 ) -> usize
-    requires { ⌜ n ≤ 32 ⌝ }
-    ensures { λ r. ⌜ TextLength (mapTexts (take n messages) (firstNetworks n networks)) 1056 r ⌝ }
+    requires { ⌜ n ≤ 64 ⌝ }
+    ensures { λ r. ⌜ TextLength (mapTexts (take n messages) (firstNetworks n networks)) 2112 r ⌝ }
 {
     let mut total = 0;
     let mut j = 0;
@@ -88,7 +88,7 @@ fn put_maps(
     n: usize,
     networks: [Network; tables::MESSAGES],
 ) -> usize
-    requires { ⌜ (n ≤ 32) × (length (mapTexts (take n messages) (firstNetworks n networks)) ≤ length (now out)) ⌝ }
+    requires { ⌜ (n ≤ 64) × (length (mapTexts (take n messages) (firstNetworks n networks)) ≤ length (now out)) ⌝ }
     ensures { λ r. ⌜ Wrote (mapTexts (take n messages) (firstNetworks n networks)) (now (out .entry)) (now (out .exit)) r ⌝ }
 {
     let mut at = 0;
@@ -111,7 +111,7 @@ pub fn map_listing(
     count: usize,
     out: &mut [u8],
 ) -> Answer
-    requires { ⌜ (n ≤ 32) × (count ≤ 32) ⌝ }
+    requires { ⌜ (n ≤ 64) × (count ≤ 64) ⌝ }
     ensures { λ r. ⌜ Listed (classThree (take n messages) (firstNetworks n networks) count) (now (out .entry)) (now (out .exit)) r ⌝ }
 {
     let needed = BEFORE_MAPS + digits(count as u8) + maps_length(messages, n, networks);

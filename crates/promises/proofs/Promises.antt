@@ -21,17 +21,19 @@ use Rattle.reading_laws.specs.protocols.Promises.{AcceptedReading}
 use Rattle.reading_laws.proofs.protocols.Accepted.{accepted-kept}
 use Rattle.mapping.specs.declared.Mapped.{Mapped}
 use Rattle.mapping.specs.Reading.{mapsAccepted}
+use Rattle.mapping.specs.Headers.{Header, header1, header2}
 use Rattle.mapping.specs.Text.{mappingText, Writable}
-use Rattle.reading_laws.proofs.mappings.RoundTrip.{reads-back}
+use Rattle.reading_laws.proofs.mappings.RoundTrip.{reads-back-1, reads-back-2}
 use Rattle.reading_laws.proofs.mappings.Why.{pad-at}
 use Rattle.answers.specs.Answers.{Listed}
+use Rattle.plan_listing.specs.PlanText.{classThree}
 use Rattle.verdicts.specs.Verdicts.{mappingOf}
 use Rattle.reading_laws.specs.bounds.Bounds.{Named}
 use Rattle.reading_laws.proofs.bounds.NamesKept.{names-kept}
 use Rattle.plan.proofs.PlanLongest.{networks-below}
 use Rattle.plan.specs.Call.{Three, Two}
 use Rattle.judge.specs.Call.{FitListing, UnfitListing}
-use Rattle.promises.specs.Promises.{tablesOf, mapped, JudgedFit, JudgedUnfit, TextUses, ThreeKept, TwoKept, PlansKept}
+use Rattle.promises.specs.Promises.{tablesOf, mapped, JudgedFit, JudgedUnfit, TextUses, KeptUnder, ThreeKept, TwoKept, PlansKept}
 
 -- ---- an accepted protocol
 
@@ -48,7 +50,7 @@ module _ (x : List ℕ) (e : readProtocol x .refusal .number ≡ 0) where
   rows : Named t
   rows = names-kept x e
 
-  few : t .«message_count» ≤ 32
+  few : t .«message_count» ≤ 64
   few = good .kept .ok .messages
 
   abbrev ms : List MessageRow
@@ -84,51 +86,57 @@ module _ (x : List ℕ) (e : readProtocol x .refusal .number ≡ 0) where
   -- ---- class 3
 
   module _ (ns : List ℕ) (k : ℕ) (long : length ns ≡ t .«message_count») (printed : Printed p (λ m. getD ns m 0)) (least : LeastCount p k) where
-    writable : Writable ms ns
-    writable =
+    -- they can be written under a header that allows so many messages
+    writable : (most : ℕ) → t .«message_count» ≤ most → Writable most ms ns
+    writable most h =
         record {
-          few = omega (arith, few, many);
+          few = omega (arith, h, many);
           long = long ∙ sym many;
           named = λ i h. ap (λ (row : MessageRow). nameRule (nameText (row .name))) (getD-take (t .«message_count») (t .messages) i noMessage (omega (arith, h, many))) ∙ rows .names i (omega (arith, h, many));
-          below = networks-below p (good .relations) few k least ns long printed;
+          below = networks-below p (good .relations) most h k least ns long printed;
         }
 
-    abbrev text : List ℕ
-    text = mappingText ms ns
+    -- written as a text that reads back
+    module _ (header : Header) (back : mapped x (mappingText header ms ns) ≡ mapsAccepted ns) where
+      abbrev text : List ℕ
+      text = mappingText header ms ns
 
-    back : mapped x text ≡ mapsAccepted ns
-    back = reads-back ms ns writable
+      same : (m : MessageNo) → m < t .«message_count» → getD ns m 0 ≡ mappingOf (mapped x text .networks) m
+      same m h =
+          sym (ap (λ (r : Mapped). getD (r .networks) m (asNetwork 0) .0) back
+          ∙ ap (λ (n : Network). n .0) (List·getD-map asNetwork (ns ++ replicate (64 - length ns) 0) m 0) ∙ pad-at ns (64 - length ns) m)
 
-    same : (m : MessageNo) → m < t .«message_count» → getD ns m 0 ≡ mappingOf (mapped x text .networks) m
-    same m h =
-        sym (ap (λ (r : Mapped). getD (r .networks) m (asNetwork 0) .0) back
-        ∙ ap (λ (n : Network). n .0) (List·getD-map asNetwork (ns ++ replicate (32 - length ns) 0) m 0) ∙ pad-at ns (32 - length ns) m)
+      printed-text : Printed p (mappingOf (mapped x text .networks))
+      printed-text m h = subst (Height (Waits p) m) (same m h) (printed m h)
 
-    printed-text : Printed p (mappingOf (mapped x text .networks))
-    printed-text m h = subst (Height (Waits p) m) (same m h) (printed m h)
+      kept : Fit p (mappingOf (mapped x text .networks)) × Uses (p .count) (mappingOf (mapped x text .networks)) k × LongestChain p k
+      kept = every-printed p (good .relations) (mappingOf (mapped x text .networks)) k printed-text least
 
-    kept : Fit p (mappingOf (mapped x text .networks)) × Uses (p .count) (mappingOf (mapped x text .networks)) k × LongestChain p k
-    kept = every-printed p (good .relations) (mappingOf (mapped x text .networks)) k printed-text least
+      kept-under : KeptUnder header x ns k
+      kept-under =
+          let a : mapped x text .refusal .number ≡ 0 = ap (λ (r : Mapped). r .refusal .number) back in
+          record { accepted = a; fit = judged-fit text a (kept .0); reached = kept .1 }
 
     fewer : (y : List ℕ) (j : ℕ) → mapped x y .refusal .number ≡ 0 → TextUses x y j → j < k → JudgedUnfit x y
     fewer y j a u h = judged-unfit y a (λ fit. omega (arith, h, least .least (mappingOf (mapped x y .networks)) j fit u))
 
+    back-2 : mapped x (mappingText header2 ms ns) ≡ mapsAccepted ns
+    back-2 = reads-back-2 ms ns (writable 64 few)
+
+    three : (listing : List ℕ) → listing ≡ classThree ms ns k → ThreeKept x listing
+    three listing is =
+        record {
+          networks = ns;
+          count = k;
+          is = is;
+          under-2 = kept-under header2 back-2;
+          under-1 = λ h. kept-under header1 (reads-back-1 ms ns (writable 32 h));
+          fewer-unfit = fewer;
+          chain = kept header2 back-2 .2;
+        }
+
   three-kept : (listing : List ℕ) → Three ms p listing → ThreeKept x listing
-  three-kept listing w =
-      let ns = w .networks in
-      let k = w .count in
-      let a : mapped x (mappingText ms ns) .refusal .number ≡ 0 = ap (λ (r : Mapped). r .refusal .number) (back ns k (w .long) (w .printed) (w .least)) in
-      let q = kept ns k (w .long) (w .printed) (w .least) in
-      record {
-        networks = ns;
-        count = k;
-        is = w .is;
-        accepted = a;
-        fit = judged-fit (mappingText ms ns) a (q .0);
-        reached = q .1;
-        fewer-unfit = fewer ns k (w .long) (w .printed) (w .least);
-        chain = q .2;
-      }
+  three-kept listing w = three (w .networks) (w .count) (w .long) (w .printed) (w .least) listing (w .is)
 
 pub plans-kept : PlansKept
 plans-kept x old new r c e =

@@ -1,5 +1,5 @@
 -- Demand 3 for texts, through the calls: what a plan says, judgements agree with. proofs/Promises.antt has a term of each type.
-use Prim.Native.Nat.{ℕ, _<_}
+use Prim.Native.Nat.{ℕ, _<_, _≤_}
 use mathlib.Core.Path.{_≡_}
 use mathlib.Core.Logic.{_⊎_}
 use mathlib.Core.List.{List}
@@ -10,6 +10,7 @@ use Rattle.tables.specs.Tables.{messagesOf}
 use Rattle.tables.specs.Cells.{relationsOfTables}
 use Rattle.protocol.specs.Reading.{readProtocol}
 use Rattle.mapping.specs.declared.Mapped.{Mapped}
+use Rattle.mapping.specs.Headers.{Header, header1, header2}
 use Rattle.mapping.specs.Text.{mappingText}
 use Rattle.answers.specs.declared.Answer.{Answer}
 use Rattle.answers.specs.Answers.{Listed}
@@ -42,16 +43,21 @@ JudgedUnfit protocol mapping =
 abbrev pub TextUses : List ℕ → List ℕ → ℕ → Type 0
 TextUses protocol mapping j = Uses (tablesOf protocol .«message_count») (mappingOf (mapped protocol mapping .networks)) j
 
+-- The networks of a listing, written as a mapping text under this header, are accepted and judged `fit`, and use so many networks.
+pub record KeptUnder (header : Header) (protocol : List ℕ) (networks : List NetworkNo) (count : ℕ) : Type 0 where
+  pub accepted : mapped protocol (mappingText header (messagesOf (tablesOf protocol)) networks) .refusal .number ≡ 0
+  pub fit : JudgedFit protocol (mappingText header (messagesOf (tablesOf protocol)) networks)
+  pub reached : TextUses protocol (mappingText header (messagesOf (tablesOf protocol)) networks) count
+
 -- What a listing of class 3 promises. "The printed number is reached by the printed mapping, no fit mapping has fewer networks,
 -- and it equals the messages on the longest waits chain."
 pub record ThreeKept (protocol listing : List ℕ) : Type 0 where
   pub networks : List NetworkNo
   pub count : ℕ
   pub is : listing ≡ classThree (messagesOf (tablesOf protocol)) networks count
-  -- The listed mapping, written as a mapping text, is accepted and judged `fit`.
-  pub accepted : mapped protocol (mappingText (messagesOf (tablesOf protocol)) networks) .refusal .number ≡ 0
-  pub fit : JudgedFit protocol (mappingText (messagesOf (tablesOf protocol)) networks)
-  pub reached : TextUses protocol (mappingText (messagesOf (tablesOf protocol)) networks) count
+  -- The listed mapping is kept as a text under header 2; and under header 1 too where it allows so many messages (there are not more networks).
+  pub under-2 : KeptUnder header2 protocol networks count
+  pub under-1 : tablesOf protocol .«message_count» ≤ 32 → KeptUnder header1 protocol networks count
   -- Every accepted mapping text with fewer networks is judged `unfit`.
   pub fewer-unfit : (mapping : List ℕ) (j : ℕ) → mapped protocol mapping .refusal .number ≡ 0 → TextUses protocol mapping j → j < count → JudgedUnfit protocol mapping
   pub chain : LongestChain (relationsOfTables (tablesOf protocol)) count

@@ -1,37 +1,46 @@
 // The checks of the relations call, in the paper's order, and its refusals.
 ghost use mathlib.Core.Path.{_≡_};
+ghost use Prim.Native.Nat.{_≤_};
+ghost use Rattle.relations.specs.row_bytes.RowBytes.{RowSize};
 ghost use Rattle.relations.specs.checks.CallChecks.{wrongCount, relationsRefusal, refusedRelations};
 use crate::answer::RelationsAnswer;
-use crate::row_bytes::ROW_BYTES;
-use rows::WIDTH;
 
-// Refusal 17: the count, or a table of another length than it asks.
-fn wrong_count(n: usize, causes: &[u8], stalls: &[u8]) -> bool
-    ensures { λ r. ⌜ r ≡ wrongCount 4 32 n (now (causes .entry)) (now (stalls .entry)) ⌝ }
+// Refusal 17: the count, or a table of another length than it asks. There may be `most` messages.
+fn wrong_count(size: usize, most: usize, n: usize, causes: &[u8], stalls: &[u8]) -> bool
+    requires { ⌜ RowSize size × (most ≤ 64) ⌝ }
+    ensures { λ r. ⌜ r ≡ wrongCount size most n (now (causes .entry)) (now (stalls .entry)) ⌝ }
 {
     if n == 0 {
         return true;
     }
-    if WIDTH < n {
+    if most < n {
         return true;
     }
-    if causes.len() != ROW_BYTES * n {
+    if causes.len() != size * n {
         return true;
     }
-    stalls.len() != ROW_BYTES * n
+    stalls.len() != size * n
 }
 
 // The number of the first check that is given, 0 where none is.
-pub(crate) fn first_check(n: usize, causes: &[u8], stalls: &[u8], room: usize) -> u8
-    ensures { λ r. ⌜ r ≡ relationsRefusal 4 32 n (now (causes .entry)) (now (stalls .entry)) room .number ⌝ }
+pub(crate) fn first_check(
+    size: usize,
+    most: usize,
+    n: usize,
+    causes: &[u8],
+    stalls: &[u8],
+    room: usize,
+) -> u8
+    requires { ⌜ RowSize size × (most ≤ 64) ⌝ }
+    ensures { λ r. ⌜ r ≡ relationsRefusal size most n (now (causes .entry)) (now (stalls .entry)) room .number ⌝ }
 {
-    if wrong_count(n, causes, stalls) {
+    if wrong_count(size, most, n, causes, stalls) {
         return papers::COUNT;
     }
-    if crate::row_bytes::stray(causes, n) {
+    if crate::row_bytes::stray(causes, size, n) {
         return papers::STRAY;
     }
-    if crate::row_bytes::stray(stalls, n) {
+    if crate::row_bytes::stray(stalls, size, n) {
         return papers::STRAY;
     }
     if room < n {

@@ -95,13 +95,18 @@ no-bits (suc w) row h f =
     let low : ¬ (row % 2 ≡ 1) = λ e. f 0 (omega arith) (omega (arith, div-one row)) in
     omega (arith, low, no-bits w (row / 2) (omega (arith, pow-suc 2 w)) (λ j k b. f (suc j) (omega arith) (bit-half row j .0 b)))
 
+-- a number has fewer bits than it says
+under-power : (k : ℕ) → k < 2 ^ k
+under-power zero = omega arith
+under-power (suc k) = omega (arith, under-power k, pow-suc 2 k)
+
 -- a row that is not 0 has a bit
-pub some-bit : (w row : ℕ) → row < 2 ^ w → row ≢ 0 → (z : ℕ) × Bit row z
-some-bit w row h g = go (first-below (Bit row) (bit? row) w)
+pub some-bit : (row : ℕ) → row ≢ 0 → (z : ℕ) × Bit row z
+some-bit row g = go (first-below (Bit row) (bit? row) row)
   where
-    go : First (Bit row) w ⊎ None (Bit row) w → (z : ℕ) × Bit row z
+    go : First (Bit row) row ⊎ None (Bit row) row → (z : ℕ) × Bit row z
     go (inl t) = (t .0, t .2)
-    go (inr f) = absurd (g (no-bits w row h f))
+    go (inr f) = absurd (g (no-bits row row (under-power row) f))
 
 -- two rows of w bits with the same bits are equal
 pub same-bits : (w a b : ℕ) → a < 2 ^ w → b < 2 ^ w → ((j : ℕ) → j < w → Bit a j ↔ Bit b j) → a ≡ b
@@ -277,8 +282,8 @@ ones-place w row h = record { counted = ones-counts w row h }
 
 -- ---- two rows meet: a common bit
 
-pub meet-some : (w a b r : ℕ) → r < 2 ^ w → Meet a b r → r ≢ 0 → (z : ℕ) × Bit a z × Bit b z
-meet-some w a b r h m g = let t = some-bit w r h g in let u = m .bits (t .0) .0 (t .1) in (t .0, u .0, u .1)
+pub meet-some : (a b r : ℕ) → Meet a b r → r ≢ 0 → (z : ℕ) × Bit a z × Bit b z
+meet-some a b r m g = let t = some-bit r g in let u = m .bits (t .0) .0 (t .1) in (t .0, u .0, u .1)
 
 pub meet-none : (a b r : ℕ) → Meet a b r → r ≡ 0 → (z : ℕ) → Bit a z → ¬ Bit b z
 meet-none a b r m e z x y = bit-zero z (subst (λ (k : ℕ). Bit k z) e (m .bits z .1 (x, y)))

@@ -13,7 +13,7 @@ use Rattle.determined.proofs.Equal.{equal}
 use Rattle.rules.proofs.Unique.{counts-one}
 use Rattle.rows.specs.Rows.{Bit}
 use Rattle.rows.specs.Row.{With, WithoutLowest, Join, Meet, AllBelow, Lowest, Ones}
-use Rattle.rows.specs.Closure.{KeptFrom, Closure}
+use Rattle.rows.specs.Closure.{KeptFrom, Cleared, Closure}
 use Rattle.rows.specs.Joins.{joins}
 use Rattle.rows.specs.Determined.{DeterminesRow, DeterminesRows, DeterminesWords}
 use Rattle.rows.proofs.Bits.{same-bits, lowest-place}
@@ -73,9 +73,12 @@ relation-one R w n given r s hr hs f g =
     kept-one n given r s (f .1) (g .1) (λ i h. told-one (R i) w (getD r i 0) (getD s i 0) (hr i) (hs i) (λ j. f .0 i j h) (λ j. g .0 i j h))
 
 -- every row says a relation
-pub words-one : (n : ℕ) (R : ℕ → ℕ → Type 0) → DeterminesWords n (λ rows. (i j : ℕ) → Bit (getD rows i 0) j ↔ R i j)
-words-one n R r s u v f g =
-    ext-getD 0 r s (u .long ∙ sym (v .long)) (λ i h. told-one (R i) 32 (getD r i 0) (getD s i 0) (u .small i) (v .small i) (f i) (g i))
+pub words-one : (w n : ℕ) (R : ℕ → ℕ → Type 0) → DeterminesWords w n (λ rows. (i j : ℕ) → Bit (getD rows i 0) j ↔ R i j)
+words-one w n R r s u v f g =
+    ext-getD 0 r s (u .long ∙ sym (v .long)) (λ i h. told-one (R i) w (getD r i 0) (getD s i 0) (u .small i) (v .small i) (f i) (g i))
+
+pub clear-one : (n : ℕ) (old : List ℕ) → Determines (Cleared n old)
+clear-one n old r s f g = kept-one n old r s (f .kept) (g .kept) (λ i h. f .none i h ∙ sym (g .none i h))
 
 pub closure-one : (w n : ℕ) (given : List ℕ) → DeterminesRows w (Closure n given)
 closure-one w n given r s hr hs f g = relation-one _ w n given r s hr hs (f .reached, f .kept) (g .reached, g .kept)

@@ -6,7 +6,29 @@ use native.Mathlib.Omega.{arith}
 use lib.ListN.{length, getD, set, length-set}
 use lib.Seq.{getD-set-same, getD-set-other}
 use borrow.Author.Count.{below-more}
-use Rattle.rows.specs.Closure.{KeptFrom}
+use Rattle.rows.specs.Closure.{KeptFrom, Cleared}
+
+-- what a cleared row is
+abbrev pub IsZero : ℕ → ℕ → Type 0
+IsZero i r = r ≡ 0
+
+-- ---- rows that stay
+
+pub kept-all : (n : ℕ) (rows : List ℕ) → KeptFrom n rows rows
+kept-all n rows = record { rest = λ i h. refl; long = refl }
+
+pub kept-on : (n : ℕ) (old mid new : List ℕ) → KeptFrom n old mid → KeptFrom n mid new → KeptFrom n old new
+kept-on n old mid new a b = record { rest = λ i h. b .rest i h ∙ a .rest i h; long = b .long ∙ a .long }
+
+-- a value stored below n
+pub kept-store : (n : ℕ) (old rows : List ℕ) (i r : ℕ) → i < n → KeptFrom n old rows → KeptFrom n old (set rows i r)
+kept-store n old rows i r h k = record { rest = λ j q. getD-set-other rows i j r 0 (λ e. absurd (omega (arith, e))) ∙ k .rest j q; long = length-set rows i r ∙ k .long }
+
+-- cleared after they were used
+pub cleared-after : (n : ℕ) (old used new : List ℕ) → KeptFrom n old used → Cleared n used new → Cleared n old new
+cleared-after n old used new k c = record { none = c .none; kept = kept-on n old used new k (c .kept) }
+
+-- ---- rows that are filled
 
 -- the rows below i are as Q says, and the others are as they were
 module _ (Q : ℕ → ℕ → Type 0) (n : ℕ) (old : List ℕ) where

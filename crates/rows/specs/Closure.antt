@@ -17,6 +17,11 @@ pub record KeptFrom (n : ℕ) (given rows : List ℕ) : Type 0 where
   pub rest : (i : ℕ) → n ≤ i → getD rows i 0 ≡ getD given i 0
   pub long : length rows ≡ length given
 
+-- The first n rows are 0, and the others are as they were.
+pub record Cleared (n : ℕ) (old new : List ℕ) : Type 0 where
+  pub none : (b : ℕ) → b < n → getD new b 0 ≡ 0
+  pub kept : KeptFrom n old new
+
 -- Bit j of row i, i below n: j is reached from i by one or more of the steps given.
 pub record Closure (n : ℕ) (given rows : List ℕ) : Type 0 where
   pub reached : (i j : ℕ) → i < n → Bit (getD rows i 0) j ↔ Plus (RowStep n given) i j

@@ -16,11 +16,11 @@ Wide w rows = (i : ℕ) → getD rows i 0 < 2 ^ w
 abbrev pub DeterminesRows : ℕ → (List ℕ → Type 0) → Type 0
 DeterminesRows w Allowed = (r s : List ℕ) → Wide w r → Wide w s → Allowed r → Allowed s → r ≡ s
 
--- The values of an array of n words.
-pub record Words (n : ℕ) (rows : List ℕ) : Type 0 where
+-- The values of an array of n words of w bits.
+pub record Words (w n : ℕ) (rows : List ℕ) : Type 0 where
   pub long : length rows ≡ n
-  pub small : Wide 32 rows
+  pub small : Wide w rows
 
 -- Two such arrays that the contract allows are equal.
-abbrev pub DeterminesWords : ℕ → (List ℕ → Type 0) → Type 0
-DeterminesWords n Allowed = (r s : List ℕ) → Words n r → Words n s → Allowed r → Allowed s → r ≡ s
+abbrev pub DeterminesWords : ℕ → ℕ → (List ℕ → Type 0) → Type 0
+DeterminesWords w n Allowed = (r s : List ℕ) → Words w n r → Words w n s → Allowed r → Allowed s → r ≡ s

@@ -8,14 +8,14 @@ ghost use Rattle.rows.specs.Joins.{joins};
 // What a turn of one row gives.
 struct Turn {
     // the row after it
-    row: u32,
+    row: u64,
     // the joins counted so far, as wide as a row, so that both are worked out side by side
-    count: u32,
+    count: u64,
 }
 
 // The turn of one row: if it has bit k it takes in the other, and a join is counted.
-fn joined(row: u32, other: u32, k: usize, count: u32) -> Turn
-    requires { ⌜ (k < 32) × (count < 32) ⌝ }
+fn joined(row: u64, other: u64, k: usize, count: u64) -> Turn
+    requires { ⌜ (k < 64) × (count < 64) ⌝ }
     ensures { λ r. ⌜ Joined row other k (r .row) ⌝ }
     ensures { λ r. ⌜ Counted row k count (r .count) ⌝ }
 {
@@ -34,13 +34,13 @@ fn joined(row: u32, other: u32, k: usize, count: u32) -> Turn
 }
 
 // Each of the first n rows takes in row k if it has bit k; gives how many did.
-fn round(t: &mut [u32], n: usize, k: usize) -> u32
-    requires { ⌜ (n ≤ 32) × (k < n) × (n ≤ length (now t)) ⌝ }
+fn round(t: &mut [u64], n: usize, k: usize) -> u64
+    requires { ⌜ (n ≤ 64) × (k < n) × (n ≤ length (now t)) ⌝ }
     ensures { λ _. ⌜ Round (now (t .entry)) n k (now (t .exit)) ⌝ }
     ensures { λ r. ⌜ Holders (now (t .entry)) n k r ⌝ }
 {
     let own = t[k];
-    let mut count: u32 = 0;
+    let mut count: u64 = 0;
     let mut i: usize = 0;
     while i < n {
         let turn = joined(t[i], own, k, count);
@@ -52,8 +52,8 @@ fn round(t: &mut [u32], n: usize, k: usize) -> u32
 }
 
 // The closure of the first n rows, in place: one or more steps. Gives the number of row joins.
-pub fn closure(t: &mut [u32], n: usize) -> usize
-    requires { ⌜ (n ≤ 32) × (n ≤ length (now t)) ⌝ }
+pub fn closure(t: &mut [u64], n: usize) -> usize
+    requires { ⌜ (n ≤ 64) × (n ≤ length (now t)) ⌝ }
     ensures { λ _. ⌜ Closure n (now (t .entry)) (now (t .exit)) ⌝ }
     ensures { λ r. ⌜ r ≡ joins n (now (t .entry)) ⌝ }
 {

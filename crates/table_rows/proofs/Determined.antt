@@ -1,4 +1,4 @@
--- Each contract of this crate leaves one answer; of rows that are below 2 ^ 32.
+-- Each contract of this crate leaves one answer; of rows that are below 2 ^ 64.
 use Prim.Native.Nat.{_<_}
 use mathlib.Core.Logic.{_⊎_, inl, inr}
 use Rattle.rows.proofs.Determined.{words-one}
@@ -10,11 +10,11 @@ use native.Mathlib.Omega.{arith}
 use Rattle.determined.specs.Determined.{Determines}
 use Rattle.rules.proofs.Cycle.{compare}
 
-pub causes-rows-determined : (t : Tables) → DeterminesWords 32 (CausesRows t)
-causes-rows-determined t = words-one 32 _
+pub causes-rows-determined : (t : Tables) → DeterminesWords 64 64 (CausesRows t)
+causes-rows-determined t = words-one 64 64 _
 
-pub stalls-rows-determined : (t : Tables) → DeterminesWords 32 (StallsRows t)
-stalls-rows-determined t = words-one 32 _
+pub stalls-rows-determined : (t : Tables) → DeterminesWords 64 64 (StallsRows t)
+stalls-rows-determined t = words-one 64 64 _
 
 pub no-entry-determined : (t : Tables) → Determines (FirstNoEntry t)
 no-entry-determined t r s p q = pick (compare r s)

@@ -12,8 +12,8 @@ use tables::Tables;
 use tables::Trigger;
 
 // The carriers of a cell: its trigger if that is a message, else the messages it sends.
-fn carriers(d: Cell) -> u32
-    requires { ⌜ CellOk 32 8 64 d ⌝ }
+fn carriers(d: Cell) -> u64
+    requires { ⌜ CellOk 64 8 64 d ⌝ }
     ensures { λ r. ⌜ ((a : ℕ) → Bit r a ↔ Carrier (asRuleTrigger (d .trigger)) (sentNumbers d) a) ⌝ }
 {
     let t = d.trigger;
@@ -24,8 +24,8 @@ fn carriers(d: Cell) -> u32
 }
 
 // Rule 2 at one cell: the rows with the carriers of d, if it enters a state.
-fn with_carriers(rows: [u32; tables::STATES], d: Cell) -> [u32; tables::STATES]
-    requires { ⌜ CellOk 32 8 64 d ⌝ }
+fn with_carriers(rows: [u64; tables::STATES], d: Cell) -> [u64; tables::STATES]
+    requires { ⌜ CellOk 64 8 64 d ⌝ }
     ensures { λ r. ⌜ Adds (CellCarries (asRuleCell d)) rows r ⌝ }
 {
     let o = d.outcome;
@@ -45,12 +45,12 @@ fn with_carriers(rows: [u32; tables::STATES], d: Cell) -> [u32; tables::STATES]
 }
 
 // Rule 2: which messages carry to which state.
-pub(crate) fn carrier_rows(t: Tables) -> [u32; tables::STATES]
+pub(crate) fn carrier_rows(t: Tables) -> [u64; tables::STATES]
     requires { ⌜ TablesOk t ⌝ }
     ensures { λ r. ⌜ CarrierRows t r ⌝ }
 {
     let n = t.cell_count;
-    let mut rows = [0u32; tables::STATES];
+    let mut rows = [0u64; tables::STATES];
     let mut i = 0;
     while i < n {
         let entering = t.cells[i];

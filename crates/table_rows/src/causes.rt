@@ -8,8 +8,8 @@ use tables::Tables;
 use tables::Trigger;
 
 // Rule 1 at one cell: the rows with what d causes.
-fn with_causes(rows: [u32; tables::MESSAGES], d: Cell) -> [u32; tables::MESSAGES]
-    requires { ⌜ CellOk 32 8 64 d ⌝ }
+fn with_causes(rows: [u64; tables::MESSAGES], d: Cell) -> [u64; tables::MESSAGES]
+    requires { ⌜ CellOk 64 8 64 d ⌝ }
     ensures { λ r. ⌜ Adds (CellCauses (asRuleCell d)) rows r ⌝ }
 {
     let o = d.outcome;
@@ -30,12 +30,12 @@ fn with_causes(rows: [u32; tables::MESSAGES], d: Cell) -> [u32; tables::MESSAGES
 }
 
 // Rule 1: which message causes which.
-pub fn causes_rows(t: Tables) -> [u32; tables::MESSAGES]
+pub fn causes_rows(t: Tables) -> [u64; tables::MESSAGES]
     requires { ⌜ TablesOk t ⌝ }
     ensures { λ r. ⌜ CausesRows t r ⌝ }
 {
     let n = t.cell_count;
-    let mut rows = [0u32; tables::MESSAGES];
+    let mut rows = [0u64; tables::MESSAGES];
     let mut i = 0;
     while i < n {
         let sender = t.cells[i];

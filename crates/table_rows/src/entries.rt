@@ -12,7 +12,7 @@ use tables::Tables;
 use tables::Trigger;
 
 // Whether d stalls a message, and the row of its state's carriers is empty.
-fn lacks_entry(row: u32, d: Cell) -> bool
+fn lacks_entry(row: u64, d: Cell) -> bool
     ensures { λ r. ⌜ (r ≡ true) ↔ CellNoEntry (Bit row) (asRuleCell d) ⌝ }
 {
     let o = d.outcome;

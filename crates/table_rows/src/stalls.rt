@@ -12,8 +12,8 @@ use tables::Tables;
 use tables::Trigger;
 
 // The row of a, with b if a is among who.
-fn column(row: u32, who: u32, a: Message, b: Message) -> u32
-    requires { ⌜ (a .0 < 32) × (b .0 < 32) ⌝ }
+fn column(row: u64, who: u64, a: Message, b: Message) -> u64
+    requires { ⌜ (a .0 < 64) × (b .0 < 64) ⌝ }
     ensures { λ r. ⌜ ((j : ℕ) → Bit r j ↔ (Bit row j ⊎ Column who (b .0) (a .0) j)) ⌝ }
 {
     if rows::has(who, a.index()) {
@@ -24,8 +24,8 @@ fn column(row: u32, who: u32, a: Message, b: Message) -> u32
 }
 
 // The rows with b in the row of each a among who.
-fn with_column(rows: [u32; tables::MESSAGES], who: u32, b: Message) -> [u32; tables::MESSAGES]
-    requires { ⌜ b .0 < 32 ⌝ }
+fn with_column(rows: [u64; tables::MESSAGES], who: u64, b: Message) -> [u64; tables::MESSAGES]
+    requires { ⌜ b .0 < 64 ⌝ }
     ensures { λ r. ⌜ Adds (Column who (b .0)) rows r ⌝ }
 {
     let mut next = rows;
@@ -40,11 +40,11 @@ fn with_column(rows: [u32; tables::MESSAGES], who: u32, b: Message) -> [u32; tab
 
 // Rule 3 at one cell: the rows with who stalls d's message, if d stalls one.
 fn with_stalls(
-    rows: [u32; tables::MESSAGES],
-    carriers: [u32; tables::STATES],
+    rows: [u64; tables::MESSAGES],
+    carriers: [u64; tables::STATES],
     d: Cell,
-) -> [u32; tables::MESSAGES]
-    requires { ⌜ CellOk 32 8 64 d ⌝ }
+) -> [u64; tables::MESSAGES]
+    requires { ⌜ CellOk 64 8 64 d ⌝ }
     ensures { λ r. ⌜ Adds (CellStalls (Among carriers) (asRuleCell d)) rows r ⌝ }
 {
     let o = d.outcome;
@@ -62,13 +62,13 @@ fn with_stalls(
 }
 
 // Rule 3: which message stalls which.
-pub fn stalls_rows(t: Tables) -> [u32; tables::MESSAGES]
+pub fn stalls_rows(t: Tables) -> [u64; tables::MESSAGES]
     requires { ⌜ TablesOk t ⌝ }
     ensures { λ r. ⌜ StallsRows t r ⌝ }
 {
     let carriers = crate::carriers::carrier_rows(t);
     let n = t.cell_count;
-    let mut rows = [0u32; tables::MESSAGES];
+    let mut rows = [0u64; tables::MESSAGES];
     let mut i = 0;
     while i < n {
         let stalling = t.cells[i];

@@ -39,9 +39,9 @@ cell-more m n e f s u h k l c ok = record {
 }
 
 -- the numbers of a stored cell are within the limits
-pub cell-at : (t : Tables) (i : ℕ) (z : Cell) → TablesOk t → length (t .cells) ≡ 512 → i < t .«cell_count» → CellOk 32 8 64 (getD (t .cells) i z)
+pub cell-at : (t : Tables) (i : ℕ) (z : Cell) → TablesOk t → length (t .cells) ≡ 512 → i < t .«cell_count» → CellOk 64 8 64 (getD (t .cells) i z)
 cell-at t i z ok e h =
-    cell-more (t .«message_count») 32 (t .«event_count») 8 (t .«state_count») 64 (ok .messages) (ok .events) (ok .states) (getD (t .cells) i z)
+    cell-more (t .«message_count») 64 (t .«event_count») 8 (t .«state_count») 64 (ok .messages) (ok .events) (ok .states) (getD (t .cells) i z)
     (each-take (CellOk (t .«message_count») (t .«event_count») (t .«state_count»)) (t .cells) (t .«cell_count») i z (ok .cells) h (omega (arith, ok .few)))
 
 -- ---- the relations of such tables are accepted

@@ -59,7 +59,7 @@ cleared-past = record { messages = refl; events = refl; states = refl; cells = r
 pub past-message : (t : Tables) (row : MessageRow) → ClearedPast t → ClearedPast (withMessage t row)
 unfolding withMessage
 past-message t row p = record {
-  messages = drop-stored 32 (t .messages) (t .«message_count») row noMessage (p .messages);
+  messages = drop-stored 64 (t .messages) (t .«message_count») row noMessage (p .messages);
   events = p .events;
   states = p .states;
   cells = p .cells;
@@ -100,7 +100,7 @@ ok-cleared = record { messages = omega arith; events = omega arith; states = ome
 
 -- tables with the same cells, and no fewer names
 ok-more : (t u : Tables) → TablesOk t → t .«message_count» ≤ u .«message_count» → t .«event_count» ≤ u .«event_count» → t .«state_count» ≤ u .«state_count»
-    → u .«message_count» ≤ 32 → u .«event_count» ≤ 8 → u .«state_count» ≤ 64 → u .«cell_count» ≤ 512 → storedOf u ≡ storedOf t → TablesOk u
+    → u .«message_count» ≤ 64 → u .«event_count» ≤ 8 → u .«state_count» ≤ 64 → u .«cell_count» ≤ 512 → storedOf u ≡ storedOf t → TablesOk u
 ok-more t u ok a b s x y z w e = record {
   messages = x;
   events = y;
@@ -112,7 +112,7 @@ ok-more t u ok a b s x y z w e = record {
       (cell-more (t .«message_count») (u .«message_count») (t .«event_count») (u .«event_count») (t .«state_count») (u .«state_count») a b s) (storedOf t) (ok .cells));
 }
 
-pub ok-message : (t : Tables) (row : MessageRow) → t .«message_count» < 32 → TablesOk t → TablesOk (withMessage t row)
+pub ok-message : (t : Tables) (row : MessageRow) → t .«message_count» < 64 → TablesOk t → TablesOk (withMessage t row)
 unfolding withMessage
 ok-message t row h ok =
     ok-more t (withMessage t row) ok (omega arith) (omega arith) (omega arith) (omega arith) (omega (arith, ok .events)) (omega (arith, ok .states)) (omega (arith, ok .few)) refl

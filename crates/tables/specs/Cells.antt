@@ -64,7 +64,7 @@ pub record CellOk (messages events states : ℕ) (c : Cell) : Type 0 where
 
 -- The counts are within the limits, and the numbers in the cells within the counts.
 pub record TablesOk (t : Tables) : Type 0 where
-  pub messages : t .«message_count» ≤ 32
+  pub messages : t .«message_count» ≤ 64
   pub events : t .«event_count» ≤ 8
   pub states : t .«state_count» ≤ 64
   pub few : t .«cell_count» ≤ 512

@@ -39,7 +39,7 @@ noCell =
 unfoldable pub clearedTables : Tables
 clearedTables =
     record {
-      messages = replicate 32 noMessage;
+      messages = replicate 64 noMessage;
       events = replicate 8 noEvent;
       states = replicate 64 noState;
       cells = replicate 512 noCell;
@@ -120,7 +120,7 @@ withCell t c =
 
 -- What is past a count is as cleared.
 pub record ClearedPast (t : Tables) : Type 0 where
-  pub messages : drop (t .«message_count») (t .messages) ≡ replicate (32 - t .«message_count») noMessage
+  pub messages : drop (t .«message_count») (t .messages) ≡ replicate (64 - t .«message_count») noMessage
   pub events : drop (t .«event_count») (t .events) ≡ replicate (8 - t .«event_count») noEvent
   pub states : drop (t .«state_count») (t .states) ≡ replicate (64 - t .«state_count») noState
   pub cells : drop (t .«cell_count») (t .cells) ≡ replicate (512 - t .«cell_count») noCell

@@ -10,7 +10,7 @@ use rules::State;
 use text::Name;
 
 // "Most allowed": so many of each, and so many messages sent from one cell. A table has a row for each that there may be.
-pub const MESSAGES: usize = 32;
+pub const MESSAGES: usize = 64;
 
 pub const EVENTS: usize = 8;
 

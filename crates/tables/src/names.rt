@@ -33,7 +33,7 @@ pub fn message_named(
     count: usize,
     part: &[u8],
 ) -> FoundMessage
-    requires { ⌜ count ≤ 32 ⌝ }
+    requires { ⌜ count ≤ 64 ⌝ }
     ensures { λ r. ⌜ r ≡ foundMessage (firstIndex (messageNamed (now (part .entry))) (take count messages)) count ⌝ }
 {
     let mut i = 0;

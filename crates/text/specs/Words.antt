@@ -10,6 +10,10 @@ protocolHeader = 118 ∷ 110 ∷ 45 ∷ 112 ∷ 114 ∷ 111 ∷ 116 ∷ 111 ∷ 
 abbrev pub mappingHeader : List ℕ
 mappingHeader = 118 ∷ 110 ∷ 45 ∷ 109 ∷ 97 ∷ 112 ∷ 112 ∷ 105 ∷ 110 ∷ 103 ∷ 9 ∷ 49 ∷ []
 
+-- "vn-mapping<tab>2"
+abbrev pub mappingHeader2 : List ℕ
+mappingHeader2 = 118 ∷ 110 ∷ 45 ∷ 109 ∷ 97 ∷ 112 ∷ 112 ∷ 105 ∷ 110 ∷ 103 ∷ 9 ∷ 50 ∷ []
+
 -- "vn-plan<tab>1"
 abbrev pub planHeader : List ℕ
 planHeader = 118 ∷ 110 ∷ 45 ∷ 112 ∷ 108 ∷ 97 ∷ 110 ∷ 9 ∷ 49 ∷ []

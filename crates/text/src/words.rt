@@ -4,6 +4,8 @@ pub const PROTOCOL_HEADER: [u8; 13] = *b"vn-protocol\t1";
 
 pub const MAPPING_HEADER: [u8; 12] = *b"vn-mapping\t1";
 
+pub const MAPPING_HEADER_2: [u8; 12] = *b"vn-mapping\t2";
+
 pub const PLAN_HEADER: [u8; 9] = *b"vn-plan\t1";
 
 pub const JUDGE_HEADER: [u8; 10] = *b"vn-judge\t1";

@@ -45,7 +45,7 @@ stored-one j k l m p q f =
     let e = sym (p .long) ∙ ap length f ∙ q .long in (
       e,
       sym (take-append-drop j l)
-          ∙ ap₂ _++_ (sym (as-messages (take j l)) ∙ ap (map asMessage) f ∙ as-messages (take k m)) (p .past ∙ ap (λ (i : ℕ). replicate (32 - i) clearedMessage) e ∙ sym (q .past))
+          ∙ ap₂ _++_ (sym (as-messages (take j l)) ∙ ap (map asMessage) f ∙ as-messages (take k m)) (p .past ∙ ap (λ (i : ℕ). replicate (64 - i) clearedMessage) e ∙ sym (q .past))
           ∙ take-append-drop k m,
     )
 
@@ -103,10 +103,10 @@ module _ (p : Relations) (φ : Mapping) (r s : JudgementFound) where
       (determined .judge-cycle p φ (firstMessages (r .«cycle_length») (r .cycle)) (firstMessages (s .«cycle_length») (s .cycle)) (f .cycle) (g .cycle))
 
   -- their rows are arrays of words
-  judgement-one : Words 32 (r .waits) → Words 32 (s .waits) → JudgementIs p φ r → JudgementIs p φ s → r ≡ s
+  judgement-one : Words 64 64 (r .waits) → Words 64 64 (s .waits) → JudgementIs p φ r → JudgementIs p φ s → r ≡ s
   judgement-one u v f g =
-      let c = cycle-one (f .verdict) (g .verdict) in same-judgement r s (c .0) (c .1) (words-one 32 _ (r .waits) (s .waits) u v (f .waits) (g .waits))
+      let c = cycle-one (f .verdict) (g .verdict) in same-judgement r s (c .0) (c .1) (words-one 64 64 _ (r .waits) (s .waits) u v (f .waits) (g .waits))
 
 pub judge-of-determined : (t : Tables) (networks : List Network)
-    → Determines (λ (r : JudgementFound). Words 32 (r .waits) × JudgementIs (relationsOfTables t) (mappingOf networks) r)
+    → Determines (λ (r : JudgementFound). Words 64 64 (r .waits) × JudgementIs (relationsOfTables t) (mappingOf networks) r)
 judge-of-determined t networks r s f g = judgement-one (relationsOfTables t) (mappingOf networks) r s (f .0) (g .0) (f .1) (g .1)

@@ -36,11 +36,11 @@ count-few p acc k least = go (every-plan p acc)
     go (inl t) = absurd (one-class p (t .1) k (t .2) least)
     go (inr t) = omega (arith, least-one p k (t .1 .number) least (t .1 .least), t .1 .small)
 
-module _ (p : Relations) (acc : Accepted p) (few : p .count ≤ 32) (waits : List ℕ) (w : WaitsOf p waits) where
+module _ (p : Relations) (acc : Accepted p) (few : p .count ≤ 64) (waits : List ℕ) (w : WaitsOf p waits) where
   same : (b c : ℕ) → Rows (p .count) waits b c ↔ Waits p b c
   same = rows-waits p acc waits w
 
-  module _ (heights : List ℕ) (count : ℕ) (g : ¬ (count ≡ 0)) (h : Heights waits (p .count) (replicate 32 0) heights count) where
+  module _ (heights : List ℕ) (count : ℕ) (g : ¬ (count ≡ 0)) (h : Heights waits (p .count) (replicate 64 0) heights count) where
     printed : Printed p (λ m. getD heights m 0)
     printed m l = height-same (Rows (p .count) waits) (Waits p) same m (getD heights m 0) (h .height g m l)
 
@@ -60,7 +60,7 @@ module _ (p : Relations) (acc : Accepted p) (few : p .count ≤ 32) (waits : Lis
           long = ap length first ∙ length-take-le (p .count) heights (omega (arith, h .long));
           printed = λ m l. subst (Height (Waits p) m) (sym (ap (λ (l : List ℕ). getD l m 0) first ∙ getD-take (p .count) heights m 0 l)) (printed m l);
           least = least;
-          networks-past = ap (drop (p .count)) is ∙ past asNetwork (p .count) 32 heights (h .rest g);
+          networks-past = ap (drop (p .count)) is ∙ past asNetwork (p .count) 64 heights (h .rest g);
           no-length = refl;
           no-cycle = refl;
         }
@@ -68,8 +68,8 @@ module _ (p : Relations) (acc : Accepted p) (few : p .count ≤ 32) (waits : Lis
         first : firstNetworks (p .count) networks ≡ take (p .count) heights
         first = ap (firstNetworks (p .count)) is ∙ networks-first (p .count) heights
 
-  class-two : (heights numbers : List ℕ) (count len : ℕ) → count ≡ 0 → Heights waits (p .count) (replicate 32 0) heights count
-      → Cycle waits waits (p .count) (replicate 32 0) numbers len → (cycle : List Message) → cycle ≡ map asMessage numbers → TwoFound p (cyclePlan len cycle)
+  class-two : (heights numbers : List ℕ) (count len : ℕ) → count ≡ 0 → Heights waits (p .count) (replicate 64 0) heights count
+      → Cycle waits waits (p .count) (replicate 64 0) numbers len → (cycle : List Message) → cycle ≡ map asMessage numbers → TwoFound p (cyclePlan len cycle)
   class-two heights numbers count len e h c cycle is =
       record {
         none = refl;
@@ -86,17 +86,17 @@ module _ (p : Relations) (acc : Accepted p) (few : p .count ≤ 32) (waits : Lis
           let t = plus-closed (Rows (p .count) waits) (a .0) (a .1) in
           c .none z (t .0) (t .1)
 
-module _ (waits : List ℕ) (n : ℕ) (few : n ≤ 32) (heights : List ℕ) (count : ℕ) (h : Heights waits n (replicate 32 0) heights count) where
+module _ (waits : List ℕ) (n : ℕ) (few : n ≤ 64) (heights : List ℕ) (count : ℕ) (h : Heights waits n (replicate 64 0) heights count) where
   -- what was made of heights and of a cycle is a plan
   pub plan-three : ¬ (count ≡ 0) → (networks : List Network) → networks ≡ map asNetwork heights → (r : PlanFound) → r ≡ rankedPlan count networks → PlanOfRows waits n r
   plan-three g networks is r made t ok some e w =
       inl (subst (ThreeFound (relationsOfTables t)) (sym made)
       (class-three (relationsOfTables t) (relations-accepted t ok (omega arith)) (omega arith) waits w heights count g
-      (subst (λ (k : ℕ). Heights waits k (replicate 32 0) heights count) (sym e) h) networks is))
+      (subst (λ (k : ℕ). Heights waits k (replicate 64 0) heights count) (sym e) h) networks is))
 
-  pub plan-two : count ≡ 0 → (numbers : List ℕ) (len : ℕ) → Cycle waits waits n (replicate 32 0) numbers len → (cycle : List Message) → cycle ≡ map asMessage numbers
+  pub plan-two : count ≡ 0 → (numbers : List ℕ) (len : ℕ) → Cycle waits waits n (replicate 64 0) numbers len → (cycle : List Message) → cycle ≡ map asMessage numbers
       → (r : PlanFound) → r ≡ cyclePlan len cycle → PlanOfRows waits n r
   plan-two z numbers len c cycle is r made t ok some e w =
       inr (subst (TwoFound (relationsOfTables t)) (sym made)
       (class-two (relationsOfTables t) (relations-accepted t ok (omega arith)) (omega arith) waits w heights numbers count len z
-      (subst (λ (k : ℕ). Heights waits k (replicate 32 0) heights count) (sym e) h) (subst (λ (k : ℕ). Cycle waits waits k (replicate 32 0) numbers len) (sym e) c) cycle is))
+      (subst (λ (k : ℕ). Heights waits k (replicate 64 0) heights count) (sym e) h) (subst (λ (k : ℕ). Cycle waits waits k (replicate 64 0) numbers len) (sym e) c) cycle is))

@@ -34,13 +34,13 @@ module _ (t : Tables) (ok : TablesOk t) (some : 0 < t .«message_count») where
       λ w. (w .0, rows-stalls t ok some stalls g (w .0) b .1 (w .1), plus-map (λ i j. rows-causes t ok some causes f i j .1) (w .0) c (w .2)),
     )
 
-    pub waits-told : (rows : List ℕ) → WaitsRows (t .«message_count») causes stalls (replicate 32 0) rows → WaitsOf (relationsOfTables t) rows
+    pub waits-told : (rows : List ℕ) → WaitsRows (t .«message_count») causes stalls (replicate 64 0) rows → WaitsOf (relationsOfTables t) rows
     waits-told rows w b c = go (decLt b (t .«message_count»))
       where
         go : Dec (b < t .«message_count») → Bit (getD rows b 0) c ↔ Waits (relationsOfTables t) b c
         go (yes h) = (λ x. same b c .0 (w .bits b c h .0 x), λ x. w .bits b c h .1 (same b c .1 x))
         go (no h) = (
-          λ x. absurd (bit-zero c (subst (λ (r : ℕ). Bit r c) (w .kept .rest b (omega arith) ∙ getD-zeros 32 b) x)),
+          λ x. absurd (bit-zero c (subst (λ (r : ℕ). Bit r c) (w .kept .rest b (omega arith) ∙ getD-zeros 64 b) x)),
           λ x. absurd (h (waits-within (relationsOfTables t) (relations-accepted t ok some) b c x .0)),
         )
 

@@ -56,7 +56,7 @@ all-at n [] a i h = absurd (omega arith)
 all-at n (x ∷ l) a zero h = a .0
 all-at n (x ∷ l) a (suc i) h = all-at n l (a .1) i (omega arith)
 
-module _ (n : ℕ) (few : n ≤ 32) (w s new : List ℕ) (len : ℕ) (c : Cycle w s n (replicate 32 0) new len) (cycle : List Message) (is : cycle ≡ map asMessage new) where
+module _ (n : ℕ) (few : n ≤ 64) (w s new : List ℕ) (len : ℕ) (c : Cycle w s n (replicate 64 0) new len) (cycle : List Message) (is : cycle ≡ map asMessage new) where
   pub cycle-first : firstMessages len cycle ≡ take len new
   cycle-first = ap (firstMessages len) is ∙ messages-first len new
 
@@ -67,10 +67,10 @@ module _ (n : ℕ) (few : n ≤ 32) (w s new : List ℕ) (len : ℕ) (c : Cycle 
   messages-below g i h =
       let a = closed-small n (Rows n w) (Rows n s) (λ a b r. (r .i-below, r .j-below)) (take len new) (c .shown g .closed) in
       let b = all-at n (take len new) a i (omega (arith, take-long)) in
-      subst (λ (l : List ℕ). getD l i 0 < 32) (sym cycle-first) (omega (arith, b))
+      subst (λ (l : List ℕ). getD l i 0 < 64) (sym cycle-first) (omega (arith, b))
 
   pub cycle-past : MessagesPast len cycle
-  cycle-past = ap (drop len) is ∙ past asMessage len 32 new (c .rest)
+  cycle-past = ap (drop len) is ∙ past asMessage len 64 new (c .rest)
 
   pub cycle-stored : ¬ (len ≡ 0) → StoredCycle len cycle
   cycle-stored g = record { few = omega (arith, c .fits); long = ap length cycle-first ∙ take-long; messages = messages-below g; past = cycle-past }

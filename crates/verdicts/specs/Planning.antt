@@ -12,11 +12,11 @@ use Rattle.verdicts.specs.Verdicts.{clearedMessage, clearedNetwork, Wait
 
 -- A plan of class 3: the least count, and the networks. There is no cycle.
 abbrev pub rankedPlan : ℕ → List Network → PlanFound
-rankedPlan count networks = record { count = count; networks = networks; «cycle_length» = 0; cycle = replicate 32 clearedMessage }
+rankedPlan count networks = record { count = count; networks = networks; «cycle_length» = 0; cycle = replicate 64 clearedMessage }
 
 -- A plan of class 2: the length of the shown cycle, and the cycle. There are no networks.
 abbrev pub cyclePlan : ℕ → List Message → PlanFound
-cyclePlan len cycle = record { count = 0; networks = replicate 32 clearedNetwork; «cycle_length» = len; cycle = cycle }
+cyclePlan len cycle = record { count = 0; networks = replicate 64 clearedNetwork; «cycle_length» = len; cycle = cycle }
 
 -- r is the plan of all tables with n messages whose rows of waits these are.
 abbrev pub PlanOfRows : List ℕ → ℕ → PlanFound → Type 0

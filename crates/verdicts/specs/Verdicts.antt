@@ -31,15 +31,15 @@ clearedNetwork = asNetwork 0
 
 -- The messages from place n on are cleared.
 abbrev pub MessagesPast : ℕ → List Message → Type 0
-MessagesPast n l = drop n l ≡ replicate (32 - n) clearedMessage
+MessagesPast n l = drop n l ≡ replicate (64 - n) clearedMessage
 
 -- The networks from place n on are cleared.
 abbrev pub NetworksPast : ℕ → List Network → Type 0
-NetworksPast n l = drop n l ≡ replicate (32 - n) clearedNetwork
+NetworksPast n l = drop n l ≡ replicate (64 - n) clearedNetwork
 
 -- A cycle in an array: its messages are the first `count` of the array, each with a row in the tables; the places past them are cleared.
 pub record StoredCycle (count : ℕ) (cycle : List Message) : Type 0 where
-  pub few : count ≤ 32
+  pub few : count ≤ 64
   pub long : length (firstMessages count cycle) ≡ count
   pub messages : MessagesBelow count (firstMessages count cycle)
   pub past : MessagesPast count cycle
@@ -49,7 +49,7 @@ pub record StoredCycle (count : ℕ) (cycle : List Message) : Type 0 where
 -- Class 3: the least count, and the printed mapping. There is no cycle.
 pub record ThreeFound (p : Relations) (r : PlanFound) : Type 0 where
   pub some : 0 < r .count
-  pub few : r .count ≤ 32
+  pub few : r .count ≤ 64
   pub long : length (firstNetworks (p .count) (r .networks)) ≡ p .count
   pub printed : Printed p (λ m. getD (firstNetworks (p .count) (r .networks)) m 0)
   pub least : LeastCount p (r .count)

@@ -10,15 +10,16 @@ use tables::Tables;
 
 // The judgement that the rows give: the shown cycle begins with a waits step.
 fn judge_of_rows(
-    waits: [u32; tables::MESSAGES],
-    steps: [u32; tables::MESSAGES],
+    waits: [u64; tables::MESSAGES],
+    steps: [u64; tables::MESSAGES],
     n: usize,
 ) -> JudgementFound
-    requires { ⌜ (n ≤ 32) × Within n waits steps ⌝ }
+    requires { ⌜ (n ≤ 64) × Within n waits steps ⌝ }
     ensures { λ r. ⌜ JudgementOfRows waits steps n r ⌝ }
 {
+    let mut sets = [0u64; tables::MESSAGES];
     let mut numbers = [0u8; tables::MESSAGES];
-    let cycle_length = walks::cycles::cycle(&waits, &steps, n, &mut numbers);
+    let cycle_length = walks::cycles::cycle(&waits, &steps, n, &mut sets, &mut numbers);
     let cycle = crate::messages_of(numbers);
     JudgementFound {
         cycle_length: cycle_length,

@@ -24,7 +24,7 @@ pub struct PlanFound {
 pub struct JudgementFound {
     pub cycle_length: usize,
     pub cycle: [Message; tables::MESSAGES],
-    pub waits: [u32; tables::MESSAGES],
+    pub waits: [u64; tables::MESSAGES],
 }
 
 // The heights that were written, as networks.
@@ -80,17 +80,18 @@ fn cycle_plan(cycle_length: usize, cycle: [Message; tables::MESSAGES]) -> PlanFo
 }
 
 // The plan of the rows of waits. Heights are networks, and the numbers of a cycle are messages: each is written to bytes of its own.
-fn plan_of_rows(waits: [u32; tables::MESSAGES], n: usize) -> PlanFound
-    requires { ⌜ (0 < n) × (n ≤ 32) ⌝ }
+fn plan_of_rows(waits: [u64; tables::MESSAGES], n: usize) -> PlanFound
+    requires { ⌜ (0 < n) × (n ≤ 64) ⌝ }
     ensures { λ r. ⌜ PlanOfRows waits n r ⌝ }
 {
+    let mut sets = [0u64; tables::MESSAGES];
     let mut heights = [0u8; tables::MESSAGES];
-    let count = walks::heights::heights(&waits, n, &mut heights);
+    let count = walks::heights::heights(&waits, n, &mut sets, &mut heights);
     if count != 0 {
         return ranked_plan(count, networks_of(heights));
     }
     let mut numbers = [0u8; tables::MESSAGES];
-    let cycle_length = walks::cycles::cycle(&waits, &waits, n, &mut numbers);
+    let cycle_length = walks::cycles::cycle(&waits, &waits, n, &mut sets, &mut numbers);
     cycle_plan(cycle_length, messages_of(numbers))
 }
 

@@ -14,11 +14,11 @@ use Rattle.waits.specs.steps.Steps.{StepsRows}
 pub waits-one : (w n : ℕ) (causes stalls old : List ℕ) → DeterminesRows w (WaitsRows n causes stalls old)
 waits-one w n causes stalls old r s hr hs f g = relation-one _ w n old r s hr hs (f .bits, f .kept) (g .bits, g .kept)
 
-pub waits-of-one : (w n : ℕ) (causes stalls : List ℕ) → DeterminesRows w (WaitsOnly n causes stalls)
-waits-of-one w n causes stalls = waits-one w n causes stalls (replicate 32 0)
+pub waits-of-one : (w most n : ℕ) (causes stalls : List ℕ) → DeterminesRows w (WaitsOnly most n causes stalls)
+waits-of-one w most n causes stalls = waits-one w n causes stalls (replicate most 0)
 
 pub row-pairs-one : (n : ℕ) (rows : List ℕ) → Determines (RowPairs n rows)
 row-pairs-one n rows j k s t = pairs-one (Rows n rows) n n j k (s .counted) (t .counted)
 
-pub steps-of-one : (w : ℕ) (waits stalls : List ℕ) (φ : Mapping) (n : ℕ) → DeterminesRows w (StepsRows waits stalls φ n)
-steps-of-one w waits stalls φ n r s hr hs f g = relation-one _ w n (replicate 32 0) r s hr hs (f .bits, f .kept) (g .bits, g .kept)
+pub steps-of-one : (w most : ℕ) (waits stalls : List ℕ) (φ : Mapping) (n : ℕ) → DeterminesRows w (StepsRows most waits stalls φ n)
+steps-of-one w most waits stalls φ n r s hr hs f g = relation-one _ w n (replicate most 0) r s hr hs (f .bits, f .kept) (g .bits, g .kept)

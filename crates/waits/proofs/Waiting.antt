@@ -1,5 +1,5 @@
 -- The rows of waits: what the loops keep, and that the rows are those of rule 4.
-use Prim.Native.Nat.{ℕ, zero, suc, _+_, _*_, _<_, _≤_, _^_}
+use Prim.Native.Nat.{ℕ, zero, suc, _+_, _*_, _<_, _≤_}
 use mathlib.Core.Path.{_≡_, refl, sym, subst, _∙_}
 use mathlib.Core.Logic.{_⊎_, inl, inr, ⊎-elim, _↔_}
 use mathlib.Core.List.{List}
@@ -15,7 +15,7 @@ use Rattle.rules.proofs.Chains.{plus-map}
 use Rattle.rules.proofs.Same.{counts-map}
 use Rattle.rules.proofs.Decided.{waits-within}
 use Rattle.rows.specs.Rows.{Bit, Rows, ofRows}
-use Rattle.rows.specs.Row.{Without, Join, Lowest, Ones}
+use Rattle.rows.specs.Row.{Without, Join, Ones}
 use Rattle.rows.specs.Closure.{RowStep, KeptFrom, Closure}
 use Rattle.rows.proofs.Bits.{bit?, bit-zero}
 use Rattle.rows.proofs.Given.{rows-accepted}
@@ -26,35 +26,33 @@ use Rattle.waits.specs.Waiting.{Tidy, Spread, Gathered, WaitsRows, RowPa
 
 module _ (row set′ : ℕ) (old : List ℕ) where
   pub record SpreadInv (rows : List ℕ) (left : ℕ) : Type 0 where
-    pub small : left < 2 ^ 32
     pub long : length rows ≡ length old
     pub part : (b : ℕ) → Bit left b → Bit set′ b
     pub todo : (b : ℕ) → Bit left b → getD rows b 0 ≡ getD old b 0
     pub done : (b : ℕ) → Bit set′ b → ¬ Bit left b → Join (getD old b 0) row (getD rows b 0)
     pub rest : (b : ℕ) → ¬ Bit set′ b → getD rows b 0 ≡ getD old b 0
 
-  pub spread-start : set′ < 2 ^ 32 → SpreadInv old set′
-  spread-start h = record { small = h; long = refl; part = λ b x. x; todo = λ b x. refl; done = λ b x g. absurd (g x); rest = λ b g. refl }
+  pub spread-start : SpreadInv old set′
+  spread-start = record { long = refl; part = λ b x. x; todo = λ b x. refl; done = λ b x g. absurd (g x); rest = λ b g. refl }
 
   pub spread-step : (rows : List ℕ) (left at r next : ℕ) → ((b : ℕ) → Bit set′ b → b < length old)
-      → Lowest 32 left at → Join (getD rows at 0) row r → Without left at next → SpreadInv rows left → SpreadInv (set rows at r) next
+      → Bit left at → Join (getD rows at 0) row r → Without left at next → SpreadInv rows left → SpreadInv (set rows at r) next
   spread-step rows left at r next fits low j w inv = record {
-    small = omega (arith, w .less, inv .small);
     long = length-set rows at r ∙ inv .long;
     part = λ b x. inv .part b (w .bits b .0 x .0);
     todo = λ b x. let y = w .bits b .0 x in getD-set-other rows at b r 0 (y .1) ∙ inv .todo b (y .0);
     done = λ b x g. go b x g (ℕ-discrete b at);
-    rest = λ b g. getD-set-other rows at b r 0 (λ e. g (subst (Bit set′) (sym e) (inv .part at (low .bit)))) ∙ inv .rest b g;
+    rest = λ b g. getD-set-other rows at b r 0 (λ e. g (subst (Bit set′) (sym e) (inv .part at low))) ∙ inv .rest b g;
   }
     where
       go : (b : ℕ) → Bit set′ b → ¬ Bit next b → Dec (b ≡ at) → Join (getD old b 0) row (getD (set rows at r) b 0)
       go b x g (yes e) =
           subst (λ (z : ℕ). Join (getD old z 0) row (getD (set rows at r) z 0)) (sym e)
-          (rw (getD-set-same rows at r 0 (omega (arith, inv .long, fits at (inv .part at (low .bit)))), ← (inv .todo at (low .bit))) j)
+          (rw (getD-set-same rows at r 0 (omega (arith, inv .long, fits at (inv .part at low))), ← (inv .todo at low)) j)
       go b x g (no f) = rw (getD-set-other rows at b r 0 f) (inv .done b x (λ y. g (w .bits b .1 (y, f))))
 
-  pub spread-below : (rows : List ℕ) (left at : ℕ) → ((b : ℕ) → Bit set′ b → b < length old) → Lowest 32 left at → SpreadInv rows left → at < length rows
-  spread-below rows left at fits low inv = omega (arith, inv .long, fits at (inv .part at (low .bit)))
+  pub spread-below : (rows : List ℕ) (left at : ℕ) → ((b : ℕ) → Bit set′ b → b < length old) → Bit left at → SpreadInv rows left → at < length rows
+  spread-below rows left at fits low inv = omega (arith, inv .long, fits at (inv .part at low))
 
   pub spread-end : (rows : List ℕ) (left : ℕ) → left ≡ 0 → SpreadInv rows left → Spread row set′ old rows
   spread-end rows left e inv = record {
@@ -64,9 +62,6 @@ module _ (row set′ : ℕ) (old : List ℕ) where
   }
 
 -- ---- every row, taken in where it stalls
-
-abbrev pub IsZero : ℕ → ℕ → Type 0
-IsZero i r = r ≡ 0
 
 module _ (n : ℕ) (closed stalls old : List ℕ) where
   pub record GatherInv (rows : List ℕ) (a : ℕ) : Type 0 where
@@ -160,19 +155,20 @@ counts-cut P n (suc w) k h f t = go (counts-cut P n w) (ℕ-discrete n (suc w)) 
     go ih (no g) (inl t) = absurd (omega (arith, f w (t .1)))
     go ih (no g) (inr t) = ih k (omega arith) f (t .1)
 
-module _ (n : ℕ) (rows : List ℕ) where
+-- the rows have w bits
+module _ (w n : ℕ) (rows : List ℕ) where
   pub record PairsInv (sum i : ℕ) : Type 0 where
     pub at-most : i ≤ n
-    pub small : sum ≤ i * 32
+    pub small : sum ≤ i * w
     pub counted : Pairs (Rows n rows) n i sum
 
   pub pairs-start : PairsInv 0 0
   pairs-start = record { at-most = omega arith; small = omega arith; counted = refl }
 
-  pub pairs-step : (sum i k : ℕ) → n ≤ 32 → Tidy n rows → i < n → Ones 32 (getD rows i 0) k → PairsInv sum i → PairsInv (sum + k) (i + 1)
+  pub pairs-step : (sum i k : ℕ) → n ≤ w → Tidy n rows → i < n → Ones w (getD rows i 0) k → PairsInv sum i → PairsInv (sum + k) (i + 1)
   pairs-step sum i k hn tidy hi o inv = record {
     at-most = omega arith;
-    small = omega (arith, counts-le (Bit (getD rows i 0)) 32 k (o .counted), inv .small);
+    small = omega (arith, counts-le (Bit (getD rows i 0)) w k (o .counted), inv .small);
     counted = rw (add-one i) (k, sum, row, inv .counted, omega arith);
   }
     where
@@ -180,10 +176,10 @@ module _ (n : ℕ) (rows : List ℕ) where
       same j = (λ b. record { i-below = hi; j-below = tidy i j hi b; bit = b }, λ r. r .bit)
 
       row : Counts (Rows n rows i) n k
-      row = counts-cut (Rows n rows i) n 32 k hn (λ j r. r .j-below) (counts-map (Bit (getD rows i 0)) (Rows n rows i) same 32 k (o .counted))
+      row = counts-cut (Rows n rows i) n w k hn (λ j r. r .j-below) (counts-map (Bit (getD rows i 0)) (Rows n rows i) same w k (o .counted))
 
   pub pairs-end : (sum i : ℕ) → n ≤ i → PairsInv sum i → RowPairs n rows sum
   pairs-end sum i h inv = record { counted = subst (λ (m : ℕ). Pairs (Rows n rows) n m sum) (let e : i ≡ n = omega (arith, inv .at-most) in e) (inv .counted) }
 
-pub ones-small : (row k : ℕ) → Ones 32 row k → k ≤ 32
-ones-small row k o = counts-le (Bit row) 32 k (o .counted)
+pub ones-small : (w row k : ℕ) → Ones w row k → k ≤ w
+ones-small w row k o = counts-le (Bit row) w k (o .counted)

@@ -20,11 +20,6 @@ pub record Spread (row set : ℕ) (old new : List ℕ) : Type 0 where
   pub rest : (b : ℕ) → ¬ Bit set b → getD new b 0 ≡ getD old b 0
   pub long : length new ≡ length old
 
--- The first n rows are 0, and the others are as they were.
-pub record Cleared (n : ℕ) (old new : List ℕ) : Type 0 where
-  pub none : (b : ℕ) → b < n → getD new b 0 ≡ 0
-  pub kept : KeptFrom n old new
-
 -- Row b is the union of the closed rows of all a that stall b.
 pub record Gathered (n : ℕ) (closed stalls old new : List ℕ) : Type 0 where
   pub bits : (b c : ℕ) → b < n → Bit (getD new b 0) c ↔ ((a : ℕ) × (a < n) × Bit (getD stalls a 0) b × Bit (getD closed a 0) c)
@@ -35,9 +30,9 @@ pub record WaitsRows (n : ℕ) (causes stalls old new : List ℕ) : Type 0 where
   pub bits : (b c : ℕ) → b < n → Bit (getD new b 0) c ↔ Waits (ofRows n causes stalls) b c
   pub kept : KeptFrom n old new
 
--- Rule 4 in 32 rows: those from n on are 0.
-abbrev pub WaitsOnly : ℕ → List ℕ → List ℕ → List ℕ → Type 0
-WaitsOnly n causes stalls rows = WaitsRows n causes stalls (replicate 32 0) rows
+-- Rule 4 in so many rows: those from n on are 0.
+abbrev pub WaitsOnly : ℕ → ℕ → List ℕ → List ℕ → List ℕ → Type 0
+WaitsOnly most n causes stalls rows = WaitsRows n causes stalls (replicate most 0) rows
 
 -- The pairs of the first n rows are k.
 pub record RowPairs (n : ℕ) (rows : List ℕ) (k : ℕ) : Type 0 where

@@ -7,15 +7,15 @@ ghost use lib.ListN.{length};
 ghost use Rattle.rows.specs.Rows.{Bit};
 ghost use Rattle.rows.specs.Closure.{Closure};
 ghost use Rattle.rows.specs.Joins.{joins};
-ghost use Rattle.waits.specs.Waiting.{Tidy, Spread, Cleared, Gathered, WaitsRows, WaitsOnly, RowPairs};
+ghost use Rattle.waits.specs.Waiting.{Tidy, Spread, Gathered, WaitsRows, WaitsOnly, RowPairs};
 use rows::WIDTH;
 
 // Each row whose place is in the set takes in the row. The next place is found by trailing zeros.
-fn spread(row: u32, set: u32, waits: &mut [u32])
+fn spread(row: u64, set: u64, waits: &mut [u64])
     requires { ⌜ ((b : ℕ) → Bit set b → b < length (now waits)) ⌝ }
     ensures { λ _. ⌜ Spread row set (now (waits .entry)) (now (waits .exit)) ⌝ }
 {
-    let mut left: u32 = set;
+    let mut left: u64 = set;
     while left != 0 {
         let b = rows::lowest(left);
         waits[b] = rows::join(waits[b], row);
@@ -23,24 +23,12 @@ fn spread(row: u32, set: u32, waits: &mut [u32])
     }
 }
 
-// Clears the first n rows.
-fn clear(rows: &mut [u32], n: usize)
-    requires { ⌜ (n ≤ 32) × (n ≤ length (now rows)) ⌝ }
-    ensures { λ _. ⌜ Cleared n (now (rows .entry)) (now (rows .exit)) ⌝ }
-{
-    let mut i: usize = 0;
-    while i < n {
-        rows[i] = 0;
-        i += 1;
-    }
-}
-
 // Row b becomes the union of the closed rows of all a that stall b.
-fn gather(closed: &[u32], stalls: &[u32], n: usize, waits: &mut [u32])
-    requires { ⌜ (n ≤ 32) × (n ≤ length (now closed)) × (n ≤ length (now stalls)) × (n ≤ length (now waits)) × Tidy n (now stalls) ⌝ }
+fn gather(closed: &[u64], stalls: &[u64], n: usize, waits: &mut [u64])
+    requires { ⌜ (n ≤ 64) × (n ≤ length (now closed)) × (n ≤ length (now stalls)) × (n ≤ length (now waits)) × Tidy n (now stalls) ⌝ }
     ensures { λ _. ⌜ Gathered n (now (closed .entry)) (now (stalls .entry)) (now (waits .entry)) (now (waits .exit)) ⌝ }
 {
-    clear(waits, n);
+    rows::clear(waits, n);
     let mut a: usize = 0;
     while a < n {
         spread(closed[a], stalls[a], waits);
@@ -49,8 +37,8 @@ fn gather(closed: &[u32], stalls: &[u32], n: usize, waits: &mut [u32])
 }
 
 // The rows of waits, by rule 4. The rows of causes are closed on the way; gives the number of row joins that this takes.
-pub fn waits(causes: &mut [u32], stalls: &[u32], n: usize, waits: &mut [u32]) -> usize
-    requires { ⌜ (n ≤ 32) × (n ≤ length (now causes)) × (n ≤ length (now stalls)) × (n ≤ length (now waits)) × Tidy n (now causes) × Tidy n (now stalls) ⌝ }
+pub fn waits(causes: &mut [u64], stalls: &[u64], n: usize, waits: &mut [u64]) -> usize
+    requires { ⌜ (n ≤ 64) × (n ≤ length (now causes)) × (n ≤ length (now stalls)) × (n ≤ length (now waits)) × Tidy n (now causes) × Tidy n (now stalls) ⌝ }
     ensures { λ _. ⌜ Closure n (now (causes .entry)) (now (causes .exit)) ⌝ }
     ensures { λ _. ⌜ WaitsRows n (now (causes .entry)) (now (stalls .entry)) (now (waits .entry)) (now (waits .exit)) ⌝ }
     ensures { λ r. ⌜ r ≡ joins n (now (causes .entry)) ⌝ }
@@ -61,8 +49,8 @@ pub fn waits(causes: &mut [u32], stalls: &[u32], n: usize, waits: &mut [u32]) ->
 }
 
 // The number of pairs of the first n rows: ones counted over each row.
-pub fn pairs(rows: &[u32], n: usize) -> usize
-    requires { ⌜ (n ≤ 32) × (n ≤ length (now rows)) × Tidy n (now rows) ⌝ }
+pub fn pairs(rows: &[u64], n: usize) -> usize
+    requires { ⌜ (n ≤ 64) × (n ≤ length (now rows)) × Tidy n (now rows) ⌝ }
     ensures { λ r. ⌜ RowPairs n (now (rows .entry)) r ⌝ }
 {
     let mut sum: usize = 0;
@@ -75,12 +63,12 @@ pub fn pairs(rows: &[u32], n: usize) -> usize
 }
 
 // The rows of waits of n messages, by rule 4. The other rows are 0. The rows of causes are closed on the way, where they stand.
-pub fn waits_of(causes: &mut [u32], stalls: &[u32], n: usize) -> [u32; WIDTH]
-    requires { ⌜ (n ≤ 32) × (n ≤ length (now causes)) × (n ≤ length (now stalls)) × Tidy n (now causes) × Tidy n (now stalls) ⌝ }
+pub fn waits_of(causes: &mut [u64], stalls: &[u64], n: usize) -> [u64; WIDTH]
+    requires { ⌜ (n ≤ 64) × (n ≤ length (now causes)) × (n ≤ length (now stalls)) × Tidy n (now causes) × Tidy n (now stalls) ⌝ }
     ensures { λ _. ⌜ Closure n (now (causes .entry)) (now (causes .exit)) ⌝ }
-    ensures { λ r. ⌜ WaitsOnly n (now (causes .entry)) (now (stalls .entry)) r ⌝ }
+    ensures { λ r. ⌜ WaitsOnly 64 n (now (causes .entry)) (now (stalls .entry)) r ⌝ }
 {
-    let mut waits = [0u32; WIDTH];
+    let mut waits = [0u64; WIDTH];
     crate::waits(causes, stalls, n, &mut waits);
     waits
 }

@@ -6,11 +6,11 @@ use rules::Message;
 use rules::Network;
 
 // The messages that something stalls.
-fn stalled_of(stalls: [u32; WIDTH], n: usize) -> u32
-    requires { ⌜ n ≤ 32 ⌝ }
+fn stalled_of(stalls: [u64; WIDTH], n: usize) -> u64
+    requires { ⌜ n ≤ 64 ⌝ }
     ensures { λ r. ⌜ StalledRow stalls n r ⌝ }
 {
-    let mut all = 0u32;
+    let mut all = 0u64;
     let mut a = 0;
     while a < n {
         all = rows::join(all, stalls[a]);
@@ -20,8 +20,8 @@ fn stalled_of(stalls: [u32; WIDTH], n: usize) -> u32
 }
 
 // The row with k, if m queues behind k.
-fn with_behind(row: u32, networks: [Network; WIDTH], stalled: u32, m: Message, k: Message) -> u32
-    requires { ⌜ (m .0 < 32) × (k .0 < 32) ⌝ }
+fn with_behind(row: u64, networks: [Network; WIDTH], stalled: u64, m: Message, k: Message) -> u64
+    requires { ⌜ (m .0 < 64) × (k .0 < 64) ⌝ }
     ensures { λ r. ⌜ WithBehind (mappingOf networks) stalled (m .0) (k .0) row r ⌝ }
 {
     if m.0 == k.0 {
@@ -41,11 +41,11 @@ fn with_behind(row: u32, networks: [Network; WIDTH], stalled: u32, m: Message, k
 }
 
 // The messages, of the first n, behind which m queues.
-fn queues_row(networks: [Network; WIDTH], stalled: u32, n: usize, m: Message) -> u32
-    requires { ⌜ (n ≤ 32) × (m .0 < n) ⌝ }
+fn queues_row(networks: [Network; WIDTH], stalled: u64, n: usize, m: Message) -> u64
+    requires { ⌜ (n ≤ 64) × (m .0 < n) ⌝ }
     ensures { λ r. ⌜ QueuesRow (mappingOf networks) stalled n (m .0) r ⌝ }
 {
-    let mut row = 0u32;
+    let mut row = 0u64;
     let mut i = 0;
     while i < n {
         let k = Message(i as u8);
@@ -57,16 +57,16 @@ fn queues_row(networks: [Network; WIDTH], stalled: u32, n: usize, m: Message) ->
 
 // The rows of waits and queues steps together, by rule 5. The rows from n on are 0.
 pub fn steps_of(
-    waits: [u32; WIDTH],
-    stalls: [u32; WIDTH],
+    waits: [u64; WIDTH],
+    stalls: [u64; WIDTH],
     networks: [Network; WIDTH],
     n: usize,
-) -> [u32; WIDTH]
-    requires { ⌜ n ≤ 32 ⌝ }
-    ensures { λ r. ⌜ StepsRows waits stalls (mappingOf networks) n r ⌝ }
+) -> [u64; WIDTH]
+    requires { ⌜ n ≤ 64 ⌝ }
+    ensures { λ r. ⌜ StepsRows 64 waits stalls (mappingOf networks) n r ⌝ }
 {
     let stalled = stalled_of(stalls, n);
-    let mut steps = [0u32; WIDTH];
+    let mut steps = [0u64; WIDTH];
     let mut i = 0;
     while i < n {
         let m = Message(i as u8);

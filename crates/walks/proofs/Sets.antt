@@ -1,5 +1,5 @@
 -- One set advanced to the next: the numbers from which a step leads into it.
-use Prim.Native.Nat.{ℕ, _+_, _<_, _≤_, _^_}
+use Prim.Native.Nat.{ℕ, _+_, _<_, _≤_}
 use mathlib.Core.Path.{_≡_, subst}
 use mathlib.Core.Logic.{_⊎_, inl, inr, ⊎-elim, _≢_, _↔_}
 use mathlib.Core.List.{List}
@@ -25,11 +25,11 @@ into-start s n set = record { at-most = omega arith; bits = λ z. (λ b. absurd 
 
 module _ (s : List ℕ) (n set r y : ℕ) (hy : y < n) (inv : IntoInv s n set r y) where
   -- the row of y and the set meet
-  pub into-yes : (m v : ℕ) → m < 2 ^ 32 → Meet (getD s y 0) set m → m ≢ 0 → With r y v → IntoInv s n set v (y + 1)
-  into-yes m v h both g with-y = record {
+  pub into-yes : (m v : ℕ) → Meet (getD s y 0) set m → m ≢ 0 → With r y v → IntoInv s n set v (y + 1)
+  into-yes m v both g with-y = record {
     at-most = omega arith;
     bits = λ z. (
-      λ b. ⊎-elim (λ x. let t = inv .bits z .0 x in (omega (arith, t .0), t .1)) (λ e. (omega (arith, e), rw e (meet-some 32 (getD s y 0) set m h both g))) (with-y .bits z .0 b),
+      λ b. ⊎-elim (λ x. let t = inv .bits z .0 x in (omega (arith, t .0), t .1)) (λ e. (omega (arith, e), rw e (meet-some (getD s y 0) set m both g))) (with-y .bits z .0 b),
       λ t. with-y .bits z .1 (pick z t (ℕ-discrete z y)),
     );
   }

@@ -19,11 +19,11 @@ abbrev pub StepsFrom : Rel → ℕ → ℕ → ℕ → Type 0
 StepsFrom R n zero m = m < n
 StepsFrom R n (suc k) m = (z : ℕ) × R m z × StepsFrom R n k z
 
--- The set at place k of the table has the numbers at which a chain of k steps starts, for k up to r. The last of these sets is empty, the one before is not.
+-- The set at place k of the table has the numbers at which a chain of k steps starts, for k below r. No chain has r steps; one has a step less.
 pub record Levels (w : List ℕ) (n : ℕ) (sets : List ℕ) (r : ℕ) : Type 0 where
   pub fits : r ≤ n
-  pub sets-are : (k : ℕ) → k ≤ r → (m : ℕ) → Bit (getD sets k 0) m ↔ StepsFrom (Rows n w) n k m
-  pub empty : getD sets r 0 ≡ 0
+  pub sets-are : (k : ℕ) → k < r → (m : ℕ) → Bit (getD sets k 0) m ↔ StepsFrom (Rows n w) n k m
+  pub none : (m : ℕ) → ¬ StepsFrom (Rows n w) n r m
   pub some : (j : ℕ) → r ≡ suc j → (m : ℕ) × StepsFrom (Rows n w) n j m
 
 -- The answer of `rounds`.
@@ -31,19 +31,15 @@ pub record Rounds (w : List ℕ) (n : ℕ) (sets : List ℕ) (r : ℕ) : Type 0 
   pub cyclic : r ≡ 0 → (a : ℕ) × Plus (Rows n w) a a
   pub levels : ¬ (r ≡ 0) → Levels w n sets r
 
--- One of the sets is empty.
-abbrev pub Sinks : List ℕ → Type 0
-Sinks sets = (k : ℕ) × (k ≤ 32) × (getD sets k 0 ≡ 0)
-
--- m is in the sets 0 to h, and not in the one after.
-pub record LastSet (sets : List ℕ) (m h : ℕ) : Type 0 where
-  pub small : h < 32
+-- Of the first `count` sets, m is in the sets 0 to h, and not in the one after if there is one.
+pub record LastSet (sets : List ℕ) (count m h : ℕ) : Type 0 where
+  pub small : h < count
   pub in-it : (j : ℕ) → j ≤ h → Bit (getD sets j 0) m
-  pub not-next : ¬ Bit (getD sets (h + 1) 0) m
+  pub not-next : h + 1 < count → ¬ Bit (getD sets (h + 1) 0) m
 
 -- The answer of `write`.
-pub record Written (sets : List ℕ) (n : ℕ) (old new : List ℕ) : Type 0 where
-  pub last : (m : ℕ) → m < n → LastSet sets m (getD new m 0)
+pub record Written (sets : List ℕ) (count n : ℕ) (old new : List ℕ) : Type 0 where
+  pub last : (m : ℕ) → m < n → LastSet sets count m (getD new m 0)
   pub rest : drop n new ≡ drop n old
 
 -- ---- the shown cycle

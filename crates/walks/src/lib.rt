@@ -7,11 +7,11 @@ ghost use Prim.Native.Nat.{_≤_};
 ghost use Rattle.walks.specs.Sets.{Into};
 
 // The numbers below n from which a step of s leads into the set.
-pub(crate) fn into(s: &[u32], n: usize, set: u32) -> u32
-    requires { do ⌜ (n ≤ 32) × (n ≤ (← ⟦s.len()⟧)) ⌝ }
+pub(crate) fn into(s: &[u64], n: usize, set: u64) -> u64
+    requires { do ⌜ (n ≤ 64) × (n ≤ (← ⟦s.len()⟧)) ⌝ }
     ensures { λ r. ⌜ Into (now (s .entry)) n set r ⌝ }
 {
-    let mut r: u32 = 0;
+    let mut r: u64 = 0;
     let mut y: usize = 0;
     while y < n {
         if rows::meet(s[y], set) != 0 {

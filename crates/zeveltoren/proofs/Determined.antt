@@ -11,9 +11,9 @@ use Rattle.plan.proofs.Determined.{plan-determined}
 use Rattle.judge.proofs.Determined.{judge-determined}
 use Rattle.zeveltoren.specs.Packed.{PackedRelations, PackedCheck, PackedPlan, PackedJudgement}
 
-pub relations-packed-determined : (n : ℕ) (causes stalls old : List ℕ) → DeterminesLent (PackedRelations n causes stalls old)
-relations-packed-determined n causes stalls old new new′ j k v w =
-    let q = call-one 4 32 n causes stalls old new new′ (v .answer) (w .answer) (v .call) (w .call) in (v .is ∙ ap packedRelations (q .0) ∙ sym (w .is), q .1)
+pub relations-packed-determined : (size most n : ℕ) (causes stalls old : List ℕ) → DeterminesLent (PackedRelations size most n causes stalls old)
+relations-packed-determined size most n causes stalls old new new′ j k v w =
+    let q = call-one size most n causes stalls old new new′ (v .answer) (w .answer) (v .call) (w .call) in (v .is ∙ ap packedRelations (q .0) ∙ sym (w .is), q .1)
 
 pub check-packed-determined : (text : List ℕ) → Determines (PackedCheck text)
 check-packed-determined text = equal _

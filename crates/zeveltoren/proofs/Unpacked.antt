@@ -18,8 +18,8 @@ use Rattle.zeveltoren.specs.Packed.{checked}
 use Rattle.zeveltoren.specs.Unpacked.{EveryRelations, EveryCheck, EveryPlanText, EveryJudgeTexts}
 
 pub every-relations : EveryRelations
-every-relations n causes stalls old new k p =
-    subst (λ (j : ℕ). RelationsUnpacked j (p .answer)) (sym (p .is)) (unpack-relations (p .answer) (call-small 4 32 n causes stalls old new (p .answer) (p .call) (omega arith)))
+every-relations size most n causes stalls old new k h p =
+    subst (λ (j : ℕ). RelationsUnpacked j (p .answer)) (sym (p .is)) (unpack-relations (p .answer) (call-small size most n causes stalls old new (p .answer) (p .call) h))
 
 pub check-told : (text : List ℕ) (r : Reading) (a : Answer) → r ≡ readProtocol text → a ≡ refusedAt (r .refusal) 0 → a ≡ checked text
 check-told text r a e f = f ∙ ap (λ (x : Reading). refusedAt (x .refusal) 0) e

@@ -12,10 +12,10 @@ use Rattle.answers.specs.Answers.{refusedAt, packedAnswer}
 use Rattle.plan.specs.Call.{PlanCall}
 use Rattle.judge.specs.Call.{JudgeCall}
 
--- The relations call: 4 bytes a row, and at most 32 messages.
-pub record PackedRelations (n : ℕ) (causes stalls old new : List ℕ) (k : ℕ) : Type 0 where
+-- The relations call: `size` bytes a row, and at most `most` messages. The first form has 4 and 32, the second 8 and 64 (C-15).
+pub record PackedRelations (size most n : ℕ) (causes stalls old new : List ℕ) (k : ℕ) : Type 0 where
   pub answer : RelationsAnswer
-  pub call : RelationsCall 4 32 n causes stalls old new answer
+  pub call : RelationsCall size most n causes stalls old new answer
   pub is : k ≡ packedRelations answer
 
 -- The reading of a protocol text, which is paper 0: why and where it is refused; every number is 0 where it is accepted.

@@ -4,9 +4,18 @@ ghost use Rattle.zeveltoren.specs.Packed.{PackedRelations, PackedCheck, 
 // The relations call.
 #[no_mangle]
 pub extern "C" fn vn_relations(n: u64, causes: &[u8], stalls: &[u8], out: &mut [u8]) -> u64
-    ensures { λ r. ⌜ PackedRelations n (now (causes .entry)) (now (stalls .entry)) (now (out .entry)) (now (out .exit)) r ⌝ }
+    ensures { λ r. ⌜ PackedRelations 4 32 n (now (causes .entry)) (now (stalls .entry)) (now (out .entry)) (now (out .exit)) r ⌝ }
 {
     let told = relations::relations(n as usize, causes, stalls, out);
+    relations::answer::packed(told)
+}
+
+// The relations call in its second form: rows of 8 bytes, and up to 64 messages.
+#[no_mangle]
+pub extern "C" fn vn_relations64(n: u64, causes: &[u8], stalls: &[u8], out: &mut [u8]) -> u64
+    ensures { λ r. ⌜ PackedRelations 8 64 n (now (causes .entry)) (now (stalls .entry)) (now (out .entry)) (now (out .exit)) r ⌝ }
+{
+    let told = relations::relations64(n as usize, causes, stalls, out);
     relations::answer::packed(told)
 }
 

@@ -31,7 +31,7 @@ use Rattle.declarations.specs.messages.Told.{OnlyMessages, MessageTold}
 -- ---- its number
 
 abbrev pub messageNumber : Line → List MessageRow → ℕ → ℕ
-messageNumber f messages count = fourOf (shaped message f) (nameRule (field f 1)) (messageDeclared messages count (field f 1)) (leb 32 count)
+messageNumber f messages count = fourOf (shaped message f) (nameRule (field f 1)) (messageDeclared messages count (field f 1)) (leb 64 count)
 
 no-event-yet : (t : Tables) (x : List ℕ) → t .«event_count» ≡ 0 → isEvent t x ≡ false
 no-event-yet t x p = le-ltb (eventAt t x) (t .«event_count») (omega arith)
@@ -40,11 +40,11 @@ module _ (t : Tables) (f : Line) where
   pub message-number : (messages : List MessageRow) (count : ℕ) → OnlyMessages t messages count → lineNumber message t f ≡ messageNumber f messages count
   unfolding lineNumber fourOf
   message-number messages count o =
-      declares message t f (messageDeclared messages count (field f 1)) (leb 32 count)
+      declares message t f (messageDeclared messages count (field f 1)) (leb 64 count)
       (le-ltb 0 (t .«event_count» + t .«state_count» + t .«cell_count») (omega (arith, o .no-event, o .no-state, o .no-cell)))
       (ap₂ (λ (x y : Bool). x || y) (is-message t (field f 1) messages count (o .rows) (o .many)) (no-event-yet t (field f 1) (o .no-event))
       ∙ or-false (messageDeclared messages count (field f 1)))
-      (ap (λ (n : ℕ). leb 32 n) (o .many))
+      (ap (λ (n : ℕ). leb 64 n) (o .many))
 
 -- ---- its row
 

@@ -35,7 +35,7 @@ record Stopped (why : Refusal) (paper : ℕ) (old new : List ℕ) (r : Answer) :
   some : why .number ≢ 0
   paper-low : paper < 10
 
-module _ (x y old new : List ℕ) (r : Answer) (room : 2048 ≤ length old) (c : JudgeCall x y old new r) where
+module _ (x y old new : List ℕ) (r : Answer) (room : 4096 ≤ length old) (c : JudgeCall x y old new r) where
   abbrev t : Tables
   t = readProtocol x .tables
 

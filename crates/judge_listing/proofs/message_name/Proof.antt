@@ -7,7 +7,7 @@ use borrow.Author.Needs.{needs}
 use Rattle.judge_listing.proofs.message_name.Statement.{statement}
 use Rattle.judge_listing.proofs.message_name.Tie as tie
 
-long : (c : tie.Start) → 32 ≤ length (c .args .t1)
+long : (c : tie.Start) → 64 ≤ length (c .args .t1)
 long c = search needs
 
 index-requires : tie.Need-index-requires

@@ -23,7 +23,7 @@ abbrev μ-loop : tie.MeasureT-loop
 
 -- the walk has as many messages as are counted
 walk-long : (c : tie.Start Inv-loop μ-loop) → length (firstMessages (c .args .count) (c .args .cycle)) ≡ c .args .count
-walk-long c = let long : length (c .args .cycle) ≡ 32 = search needs in first-length (c .args .count) (c .args .cycle) (omega (arith, c .pre .0 .few))
+walk-long c = let long : length (c .args .cycle) ≡ 64 = search needs in first-length (c .args .count) (c .args .cycle) (omega (arith, c .pre .0 .few))
 
 -- the output keeps its length
 kept : (c : tie.At-loop Inv-loop μ-loop) → length (c .loop .out) ≡ length (c .before .before .args .out .now)

@@ -11,19 +11,19 @@ use borrow.Author.Needs.{needs}
 use Rattle.judge_listing.proofs.step_at.Statement.{statement}
 use Rattle.judge_listing.proofs.step_at.Tie as tie
 
--- the cycle is kept in 32 places
-long : (c : tie.Start) → length (c .args .t2) ≡ 32
+-- the cycle is kept in 64 places
+long : (c : tie.Start) → length (c .args .t2) ≡ 64
 long c = search needs
 
 -- both messages have a row
-from-below : (c : tie.Start) → messageNumber (getD (c .args .t2) (c .args .i) (record { 0 = 0 })) < 32
-from-below c = subst (λ (m : ℕ). m < 32) (first-at (c .args .count) (c .args .t2) (c .args .i) (c .pre .1)) (c .pre .0 .messages (c .args .i) (c .pre .1))
+from-below : (c : tie.Start) → messageNumber (getD (c .args .t2) (c .args .i) (record { 0 = 0 })) < 64
+from-below c = subst (λ (m : ℕ). m < 64) (first-at (c .args .count) (c .args .t2) (c .args .i) (c .pre .1)) (c .pre .0 .messages (c .args .i) (c .pre .1))
 
 to-place : (c : tie.After-next-place) → c .next-place .result < c .before .before .args .count
 to-place c = omega (arith, c .next-place .ensures, next-below (c .before .before .args .count) (c .before .before .args .i) (c .before .before .pre .0 .some))
 
-to-below : (c : tie.After-next-place) → messageNumber (getD (c .before .before .args .t2) (c .next-place .result) (record { 0 = 0 })) < 32
-to-below c = subst (λ (m : ℕ). m < 32) (first-at (c .before .before .args .count) (c .before .before .args .t2) (c .next-place .result) (to-place c)) (c .before .before .pre .0 .messages (c .next-place .result) (to-place c))
+to-below : (c : tie.After-next-place) → messageNumber (getD (c .before .before .args .t2) (c .next-place .result) (record { 0 = 0 })) < 64
+to-below c = subst (λ (m : ℕ). m < 64) (first-at (c .before .before .args .count) (c .before .before .args .t2) (c .next-place .result) (to-place c)) (c .before .before .pre .0 .messages (c .next-place .result) (to-place c))
 
 array-copy-out-from : tie.Need-array-copy-out-from
 array-copy-out-from c = search needs

@@ -21,7 +21,7 @@ abbrev μ-loop : tie.MeasureT-loop
 
 -- the walk has as many messages as are counted
 walk-long : (c : tie.Start Inv-loop μ-loop) → length (firstMessages (c .args .count) (c .args .cycle)) ≡ c .args .count
-walk-long c = let long : length (c .args .cycle) ≡ 32 = search needs in first-length (c .args .count) (c .args .cycle) (omega (arith, c .pre .few))
+walk-long c = let long : length (c .args .cycle) ≡ 64 = search needs in first-length (c .args .count) (c .args .cycle) (omega (arith, c .pre .few))
 
 loop-holds : tie.Need-loop-holds Inv-loop μ-loop
 loop-holds c = let a = c .args in (search needs, omega (arith, ap length (no-lines (a .messages) (wordIn (a .waits)) (firstMessages (a .count) (a .cycle)))), omega arith)

@@ -2,11 +2,11 @@
 use mathlib.Core.Path.{_≡_, refl, sym, ap, _∙_}
 use mathlib.Core.Bool.{Bool, true, false, not, _&&_}
 use mathlib.Core.List.{List, [], _∷_}
-use Prim.Native.Nat.{ℕ, _<_}
+use Prim.Native.Nat.{ℕ, _<_, _≤_}
 use native.Mathlib.Omega.{arith}
 use lib.ListN.{length, getD}
 use lib.Dec.{eqb}
-use borrow.Author.Tests.{eqb-true, eq-eqb, ne-eqb}
+use borrow.Author.Tests.{eqb-true, eq-eqb, ne-eqb, le-leb, lt-leb}
 use Rattle.text.specs.Parts.{sameText, split}
 use Rattle.rules.specs.Numbers.{asNetwork}
 use Rattle.text.specs.Line.{Line, field, says}
@@ -22,7 +22,7 @@ use Rattle.papers.proofs.WholeLine.{whole-count, count-whole, told-field}
 use Rattle.tables.specs.declared.MessageRow.{MessageRow}
 use Rattle.mapping.specs.declared.lines.MapLine.{MapLine}
 use Rattle.mapping.specs.networks.Networks.{networkOf, isNetwork}
-use Rattle.mapping.specs.lines.Line.{mapShaped, matches, mapRefusal, MapTold}
+use Rattle.mapping.specs.lines.Line.{mapShaped, mapsFull, matches, mapRefusal, MapTold}
 
 -- ---- the shape
 
@@ -52,55 +52,65 @@ map-field l r i h e k = told-field l r i e (omega (arith, ap (λ (s : Fields). s
 
 -- ---- the first of a line's checks
 
-module _ (k : ℕ) (f : Line) where
+module _ (most before k : ℕ) (f : Line) where
   abbrev shape : Check
   shape = check 4 k (not (mapShaped f))
+
+  abbrev full : Check
+  full = check 9 k (mapsFull most before)
 
   abbrev match : List MessageRow → Check
   match next = check 14 k (not (matches next (field f 1)))
 
   abbrev network : Check
-  network = check 15 k (not (isNetwork (field f 2)))
+  network = check 15 k (not (isNetwork most (field f 2)))
 
-  pub line-shape : (next : List MessageRow) → mapShaped f ≡ false → mapRefusal next k f ≡ refusal 4 k
+  pub line-shape : (next : List MessageRow) → mapShaped f ≡ false → mapRefusal most before next k f ≡ refusal 4 k
   unfolding mapRefusal
-  line-shape next e = first-given shape (match next ∷ network ∷ []) (ap not e)
+  line-shape next e = first-given shape (full ∷ match next ∷ network ∷ []) (ap not e)
 
   module _ (s : mapShaped f ≡ true) where
-    pub line-many : mapRefusal [] k f ≡ refusal 14 k
+    pub line-full : (next : List MessageRow) → most ≤ before → mapRefusal most before next k f ≡ refusal 9 k
     unfolding mapRefusal
-    line-many = first-passed shape (match [] ∷ network ∷ []) (ap not s) ∙ first-given (match []) (network ∷ []) refl
+    line-full next h = first-passed shape (full ∷ match next ∷ network ∷ []) (ap not s) ∙ first-given full (match next ∷ network ∷ []) (le-leb most before h)
 
-    module _ (m : MessageRow) where
-      pub line-unmatched : sameText (nameText (m .name)) (field f 1) ≡ false → mapRefusal (m ∷ []) k f ≡ refusal 14 k
+    module _ (room : before < most) where
+      -- past the first two
+      after-full : (next : List MessageRow) → mapRefusal most before next k f ≡ firstOf (match next ∷ network ∷ [])
       unfolding mapRefusal
-      line-unmatched q = first-passed shape (match (m ∷ []) ∷ network ∷ []) (ap not s) ∙ first-given (match (m ∷ [])) (network ∷ []) (ap not q)
+      after-full next = first-passed shape (full ∷ match next ∷ network ∷ []) (ap not s) ∙ first-passed full (match next ∷ network ∷ []) (lt-leb most before room)
 
-      module _ (q : sameText (nameText (m .name)) (field f 1) ≡ true) where
-        pub line-no-network : isNetwork (field f 2) ≡ false → mapRefusal (m ∷ []) k f ≡ refusal 15 k
-        unfolding mapRefusal
-        line-no-network e =
-            first-passed shape (match (m ∷ []) ∷ network ∷ []) (ap not s) ∙ first-passed (match (m ∷ [])) (network ∷ []) (ap not q)
-            ∙ first-given network [] (ap not e)
+      pub line-many : mapRefusal most before [] k f ≡ refusal 14 k
+      line-many = after-full [] ∙ first-given (match []) (network ∷ []) refl
 
-        pub line-passes : isNetwork (field f 2) ≡ true → mapRefusal (m ∷ []) k f ≡ none
-        unfolding mapRefusal firstOf
-        line-passes e =
-            first-passed shape (match (m ∷ []) ∷ network ∷ []) (ap not s) ∙ first-passed (match (m ∷ [])) (network ∷ []) (ap not q)
-            ∙ first-passed network [] (ap not e)
+      module _ (m : MessageRow) where
+        pub line-unmatched : sameText (nameText (m .name)) (field f 1) ≡ false → mapRefusal most before (m ∷ []) k f ≡ refusal 14 k
+        line-unmatched q = after-full (m ∷ []) ∙ first-given (match (m ∷ [])) (network ∷ []) (ap not q)
+
+        module _ (q : sameText (nameText (m .name)) (field f 1) ≡ true) where
+          pub line-no-network : isNetwork most (field f 2) ≡ false → mapRefusal most before (m ∷ []) k f ≡ refusal 15 k
+          line-no-network e =
+              after-full (m ∷ []) ∙ first-passed (match (m ∷ [])) (network ∷ []) (ap not q)
+              ∙ first-given network [] (ap not e)
+
+          pub line-passes : isNetwork most (field f 2) ≡ true → mapRefusal most before (m ∷ []) k f ≡ none
+          unfolding firstOf
+          line-passes e =
+              after-full (m ∷ []) ∙ first-passed (match (m ∷ [])) (network ∷ []) (ap not q)
+              ∙ first-passed network [] (ap not e)
 
   -- only the next message is asked for
-  pub line-next : (m : MessageRow) (next : List MessageRow) → mapRefusal (m ∷ next) k f ≡ mapRefusal (m ∷ []) k f
+  pub line-next : (m : MessageRow) (next : List MessageRow) → mapRefusal most before (m ∷ next) k f ≡ mapRefusal most before (m ∷ []) k f
   unfolding mapRefusal
   line-next m next = refl
 
 -- ---- what a line gives
 
-module _ (k : ℕ) (m : MessageRow) (f : Line) (r : MapLine) where
+module _ (most k : ℕ) (m : MessageRow) (f : Line) (r : MapLine) where
   -- it is refused
-  pub gives-none : (n : ℕ) → (n ≡ 0 → ⊥) → mapRefusal (m ∷ []) k f ≡ refusal n k → r .refusal ≡ refusal n k → MapTold k m f r
-  gives-none n h e q = record { told = q ∙ sym e; network = λ z. absurd (h (sym (ap (λ (x : Refusal). x .number) q) ∙ z)) }
+  pub gives-none : (n : ℕ) → (n ≡ 0 → ⊥) → ((before : ℕ) → before < most → mapRefusal most before (m ∷ []) k f ≡ refusal n k) → r .refusal ≡ refusal n k → MapTold most k m f r
+  gives-none n h e q = record { told = λ before room. q ∙ sym (e before room); network = λ z. absurd (h (sym (ap (λ (x : Refusal). x .number) q) ∙ z)) }
 
   -- it gives its network
-  pub gives-network : mapRefusal (m ∷ []) k f ≡ none → r .refusal ≡ none → r .network ≡ asNetwork (networkOf (field f 2)) → MapTold k m f r
-  gives-network e q n = record { told = q ∙ sym e; network = λ z. n }
+  pub gives-network : ((before : ℕ) → before < most → mapRefusal most before (m ∷ []) k f ≡ none) → r .refusal ≡ none → r .network ≡ asNetwork (networkOf most (field f 2)) → MapTold most k m f r
+  gives-network e q n = record { told = λ before room. q ∙ sym (e before room); network = λ z. n }

@@ -10,22 +10,22 @@ use Rattle.text.specs.Parts.{part, place, split}
 use Rattle.tables.specs.declared.MessageRow.{MessageRow}
 use Rattle.tables.specs.declared.Kind.the-variants.{Req}
 use Rattle.mapping.specs.lines.Line.{mapShaped, MapTold}
-use Rattle.mapping.proofs.ReadLaws.{Going, going-first, line-within, going-shape, going-many, going-refused, going-more, going-short, going-done}
+use Rattle.mapping.proofs.ReadLaws.{Going, going-first, line-within, going-shape, going-full, going-many, going-refused, going-more, going-short, going-done}
 use Rattle.mapping.proofs.map_lines.Statement.{statement}
 use Rattle.mapping.proofs.map_lines.Tie as tie
 
 abbrev Inv-loop : tie.InvT-loop
-Inv-loop text from count messages n networks₀ at₀ i₀ networks at i = Going text from messages count at i networks
+Inv-loop text from count most messages n networks₀ at₀ i₀ networks at i = Going most text from messages count at i networks
 
 abbrev μ-loop : tie.MeasureT-loop
-μ-loop text from count messages n networks₀ at₀ i₀ networks at i = length text - at
+μ-loop text from count most messages n networks₀ at₀ i₀ networks at i = length text - at
 
 -- What the code reads past the end of an array.
 abbrev gone : MessageRow
 gone = record { name = record { bytes = []; length = 0 }; kind = Req }
 
--- there are 32 rows
-long : (c : tie.Start Inv-loop μ-loop) → length (c .args .t3) ≡ 32
+-- there are 64 rows
+long : (c : tie.Start Inv-loop μ-loop) → length (c .args .t3) ≡ 64
 long c = search needs
 
 -- the line that was found ends within the text
@@ -33,7 +33,7 @@ found : (c : tie.After-find Inv-loop μ-loop) → (c .before .before .loop .at �
 found c =
     let a = c .before .before .before .before .args in
     let l = c .before .before .loop in
-    let w = line-within gone (a .text .now) (a .from) (a .t3) (a .count) (l .at) (l .i) (l .networks) (l .inv) (c .before .loop-test .taken) in
+    let w = line-within gone (a .most) (a .text .now) (a .from) (a .t3) (a .count) (l .at) (l .i) (l .networks) (l .inv) (c .before .loop-test .taken) in
     (omega (arith, w .0, c .find .ensures), omega (arith, w .1, c .find .ensures))
 
 -- whether it is shaped
@@ -43,13 +43,13 @@ shape c = c .is-map .ensures ∙ ap (λ (e : ℕ). mapShaped (split 9 (part (c .
 
 -- what it gives, where it is the turn of a message
 told : (c : tie.After-map-line Inv-loop μ-loop)
-    → MapTold (c .before .before .before .before .before .before .before .before .before .loop .i + 2) (getD (c .before .before .before .before .before .before .before .before .before .before .before .args .t3) (c .before .before .before .before .before .before .before .before .before .loop .i) gone) (split 9 (part (c .before .before .before .before .before .before .before .before .before .before .before .args .text .now) (c .before .before .before .before .before .before .before .before .before .loop .at) (place 10 (c .before .before .before .before .before .before .before .before .before .before .before .args .text .now) (c .before .before .before .before .before .before .before .before .before .loop .at) (length (c .before .before .before .before .before .before .before .before .before .before .before .args .text .now))))) (c .map-line .result)
+    → MapTold (c .before .before .before .before .before .before .before .before .before .before .before .before .args .most) (c .before .before .before .before .before .before .before .before .before .before .loop .i + 2) (getD (c .before .before .before .before .before .before .before .before .before .before .before .before .args .t3) (c .before .before .before .before .before .before .before .before .before .before .loop .i) gone) (split 9 (part (c .before .before .before .before .before .before .before .before .before .before .before .before .args .text .now) (c .before .before .before .before .before .before .before .before .before .before .loop .at) (place 10 (c .before .before .before .before .before .before .before .before .before .before .before .before .args .text .now) (c .before .before .before .before .before .before .before .before .before .before .loop .at) (length (c .before .before .before .before .before .before .before .before .before .before .before .before .args .text .now))))) (c .map-line .result)
 told c =
-    subst (λ (e : ℕ). MapTold (c .before .before .before .before .before .before .before .before .before .loop .i + 2) (getD (c .before .before .before .before .before .before .before .before .before .before .before .args .t3) (c .before .before .before .before .before .before .before .before .before .loop .i) gone) (split 9 (part (c .before .before .before .before .before .before .before .before .before .before .before .args .text .now) (c .before .before .before .before .before .before .before .before .before .loop .at) e)) (c .map-line .result))
-    (c .before .before .before .before .before .before .before .find .ensures) (c .map-line .ensures)
+    subst (λ (e : ℕ). MapTold (c .before .before .before .before .before .before .before .before .before .before .before .before .args .most) (c .before .before .before .before .before .before .before .before .before .before .loop .i + 2) (getD (c .before .before .before .before .before .before .before .before .before .before .before .before .args .t3) (c .before .before .before .before .before .before .before .before .before .before .loop .i) gone) (split 9 (part (c .before .before .before .before .before .before .before .before .before .before .before .before .args .text .now) (c .before .before .before .before .before .before .before .before .before .before .loop .at) e)) (c .map-line .result))
+    (c .before .before .before .before .before .before .before .before .find .ensures) (c .map-line .ensures)
 
 loop-holds : tie.Need-loop-holds Inv-loop μ-loop
-loop-holds c = going-first gone (c .before .args .text .now) (c .before .args .from) (c .before .args .t3) (c .before .args .count) (c .before .pre .0)
+loop-holds c = let s = c .before in going-first gone (s .args .most) (s .args .text .now) (s .args .from) (s .args .t3) (s .args .count) (s .pre .0)
 
 find-requires : tie.Need-find-requires Inv-loop μ-loop
 find-requires c κs = (c .before .loop .inv .left .within, omega arith)
@@ -77,7 +77,7 @@ returns c =
     let a = c .before .before .before .before .before .before .before .before .args in
     let l = c .before .before .before .before .before .before .loop in
     c .refuse .ensures
-    ∙ going-shape gone (a .text .now) (a .from) (a .t3) (a .count) (l .at) (l .i) (l .networks) (l .inv) (c .before .before .before .before .before .loop-test .taken)
+    ∙ going-shape gone (a .most) (a .text .now) (a .from) (a .t3) (a .count) (l .at) (l .i) (l .networks) (l .inv) (c .before .before .before .before .before .loop-test .taken)
     (sym (shape (c .before .before)) ∙ not-true (c .before .before .is-map .result) (c .before .if1 .taken))
 
 refuse-requires-2 : tie.Need-refuse-requires-2 Inv-loop μ-loop
@@ -88,79 +88,91 @@ returns-2 c =
     let a = c .before .before .before .before .before .before .before .before .before .args in
     let l = c .before .before .before .before .before .before .before .loop in
     c .refuse2 .ensures
-    ∙ going-many gone (a .text .now) (a .from) (a .t3) (a .count) (l .at) (l .i) (l .networks) (l .inv) (c .before .before .before .before .before .before .loop-test .taken)
+    ∙ going-full gone (a .most) (a .text .now) (a .from) (a .t3) (a .count) (l .at) (l .i) (l .networks) (l .inv) (c .before .before .before .before .before .before .loop-test .taken)
     (sym (shape (c .before .before .before)) ∙ not-false (c .before .before .before .is-map .result) (c .before .before .if1 .left)) (c .before .before .before .before .before .before .before .before .before .pre .1) (long (c .before .before .before .before .before .before .before .before .before)) (c .before .if2 .taken)
-
-mul-row : tie.Need-mul-row Inv-loop μ-loop
-mul-row c = omega (arith, c .before .before .before .before .before .before .loop .inv .few, c .before .before .before .before .before .before .before .before .pre .1)
-
-array-copy-out-row : tie.Need-array-copy-out-row Inv-loop μ-loop
-array-copy-out-row c = omega (arith, c .before .before .before .before .before .before .loop .inv .few, c .before .before .before .before .before .before .before .before .pre .1, c .if2 .left, long (c .before .before .before .before .before .before .before .before))
-
-sub-map-line : tie.Need-sub-map-line Inv-loop μ-loop
-sub-map-line c = found (c .before .before .before .before .before) .0
-
-part-map-line-start : tie.Need-part-map-line-start Inv-loop μ-loop
-part-map-line-start c = omega (arith, found (c .before .before .before .before .before) .0, found (c .before .before .before .before .before) .1)
-
-part-map-line-end : tie.Need-part-map-line-end Inv-loop μ-loop
-part-map-line-end c = omega (arith, found (c .before .before .before .before .before) .0, found (c .before .before .before .before .before) .1)
-
-map-line-requires : tie.Need-map-line-requires Inv-loop μ-loop
-map-line-requires c κs = sym (c .before .before .before .before .is-map .ensures) ∙ not-false (c .before .before .before .before .is-map .result) (c .before .before .before .if1 .left)
 
 refuse-requires-3 : tie.Need-refuse-requires-3 Inv-loop μ-loop
 refuse-requires-3 c κs = search needs
 
 returns-3 : tie.Need-returns-3 Inv-loop μ-loop
 returns-3 c =
-    let a = c .before .before .before .before .before .before .before .before .before .before .before .before .before .before .args in
-    let l = c .before .before .before .before .before .before .before .before .before .before .before .before .loop in
-    let m = c .before .before .before .map-line in
+    let a = c .before .before .before .before .before .before .before .before .before .before .args in
+    let l = c .before .before .before .before .before .before .before .before .loop in
     c .refuse3 .ensures
-    ∙ going-refused gone (a .text .now) (a .from) (a .t3) (a .count) (l .at) (l .i) (l .networks) (l .inv) (c .before .before .before .before .before .before .before .before .before .before .before .loop-test .taken)
-    (sym (shape (c .before .before .before .before .before .before .before .before)) ∙ not-false (c .before .before .before .before .before .before .before .before .is-map .result) (c .before .before .before .before .before .before .before .if1 .left)) (c .before .before .before .before .before .before .before .before .before .before .before .before .before .before .pre .1) (long (c .before .before .before .before .before .before .before .before .before .before .before .before .before .before)) (omega (arith, l .inv .few, c .before .before .before .before .before .before .if2 .left))
-    (m .result .refusal) (told (c .before .before .before) .told) (c .before .if3 .taken)
+    ∙ going-many gone (a .most) (a .text .now) (a .from) (a .t3) (a .count) (l .at) (l .i) (l .networks) (l .inv) (c .before .before .before .before .before .before .before .loop-test .taken)
+    (sym (shape (c .before .before .before .before)) ∙ not-false (c .before .before .before .before .is-map .result) (c .before .before .before .if1 .left)) (c .before .before .before .before .before .before .before .before .before .before .pre .1) (long (c .before .before .before .before .before .before .before .before .before .before)) (omega (arith, l .inv .room, c .before .before .if2 .left)) (c .before .if3 .taken)
 
-array-set-from-networks : tie.Need-array-set-from-networks Inv-loop μ-loop
-array-set-from-networks c = omega (arith, c .before .before .before .before .before .before .before .before .before .before .before .before .loop .inv .few, c .before .before .before .before .before .before .before .before .before .before .before .before .before .before .pre .1, c .before .before .before .before .before .before .if2 .left)
+mul-row : tie.Need-mul-row Inv-loop μ-loop
+mul-row c = omega (arith, c .before .before .before .before .before .before .before .loop .inv .few, c .before .before .before .before .before .before .before .before .before .pre .1)
 
-add-at : tie.Need-add-at Inv-loop μ-loop
-add-at c = omega (arith, found (c .before .before .before .before .before .before .before .before .before .before) .1)
+array-copy-out-row : tie.Need-array-copy-out-row Inv-loop μ-loop
+array-copy-out-row c = omega (arith, c .before .before .before .before .before .before .before .loop .inv .few, c .before .before .before .before .before .before .before .before .before .pre .1, c .if3 .left, long (c .before .before .before .before .before .before .before .before .before))
 
-add-i : tie.Need-add-i Inv-loop μ-loop
-add-i c = omega (arith, c .before .before .before .before .before .before .before .before .before .before .before .before .loop .inv .few, c .before .before .before .before .before .before .before .before .before .before .before .before .before .before .pre .1)
+sub-map-line : tie.Need-sub-map-line Inv-loop μ-loop
+sub-map-line c = found (c .before .before .before .before .before .before) .0
 
-loop-less : tie.Need-loop-less Inv-loop μ-loop
-loop-less c = omega (arith, found (c .before .before .before .before .before .before .before .before .before .before) .0, found (c .before .before .before .before .before .before .before .before .before .before) .1)
+part-map-line-start : tie.Need-part-map-line-start Inv-loop μ-loop
+part-map-line-start c = omega (arith, found (c .before .before .before .before .before .before) .0, found (c .before .before .before .before .before .before) .1)
 
-loop-again : tie.Need-loop-again Inv-loop μ-loop
-loop-again c =
-    let a = c .before .before .before .before .before .before .before .before .before .before .before .before .before .before .args in
-    let l = c .before .before .before .before .before .before .before .before .before .before .before .before .loop in
-    let m = c .before .before .before .map-line in
-    subst (λ (e : ℕ). Going (a .text .now) (a .from) (a .t3) (a .count) (e + 1) (l .i + 1) (set (l .networks) (l .i) (m .result .network))) (sym (c .before .before .before .before .before .before .before .before .before .before .find .ensures))
-    (going-more gone (a .text .now) (a .from) (a .t3) (a .count) (l .at) (l .i) (l .networks) (l .inv) (c .before .before .before .before .before .before .before .before .before .before .before .loop-test .taken)
-    (sym (shape (c .before .before .before .before .before .before .before .before)) ∙ not-false (c .before .before .before .before .before .before .before .before .is-map .result) (c .before .before .before .before .before .before .before .if1 .left)) (c .before .before .before .before .before .before .before .before .before .before .before .before .before .before .pre .1) (long (c .before .before .before .before .before .before .before .before .before .before .before .before .before .before)) (omega (arith, l .inv .few, c .before .before .before .before .before .before .if2 .left))
-    (m .result .refusal) (told (c .before .before .before) .told) (c .before .if3 .left) (m .result .network) (told (c .before .before .before) .network (c .before .if3 .left)))
+part-map-line-end : tie.Need-part-map-line-end Inv-loop μ-loop
+part-map-line-end c = omega (arith, found (c .before .before .before .before .before .before) .0, found (c .before .before .before .before .before .before) .1)
 
-add-missing : tie.Need-add-missing Inv-loop μ-loop
-add-missing c = omega (arith, c .before .before .loop .inv .few, c .before .before .before .before .pre .1)
+map-line-requires : tie.Need-map-line-requires Inv-loop μ-loop
+map-line-requires c κs = let p = c .before .before .before .before .before .before .before .before .before .before .before .pre in (sym (c .before .before .before .before .before .is-map .ensures) ∙ not-false (c .before .before .before .before .before .is-map .result) (c .before .before .before .before .if1 .left), p .2, p .3)
 
 refuse-requires-4 : tie.Need-refuse-requires-4 Inv-loop μ-loop
 refuse-requires-4 c κs = search needs
 
 returns-4 : tie.Need-returns-4 Inv-loop μ-loop
 returns-4 c =
-    let a = c .before .before .before .before .before .args in
-    let l = c .before .before .before .loop in
-    c .refuse4 .ensures ∙ going-short gone (a .text .now) (a .from) (a .t3) (a .count) (l .at) (l .i) (l .networks) (l .inv) (c .before .before .loop-test .left) (omega arith) (long (c .before .before .before .before .before)) (c .before .before .before .before .before .pre .1)
+    let a = c .before .before .before .before .before .before .before .before .before .before .before .before .before .before .before .args in
+    let l = c .before .before .before .before .before .before .before .before .before .before .before .before .before .loop in
+    let m = c .before .before .before .map-line in
+    c .refuse4 .ensures
+    ∙ going-refused gone (a .most) (a .text .now) (a .from) (a .t3) (a .count) (l .at) (l .i) (l .networks) (l .inv) (c .before .before .before .before .before .before .before .before .before .before .before .before .loop-test .taken)
+    (sym (shape (c .before .before .before .before .before .before .before .before .before)) ∙ not-false (c .before .before .before .before .before .before .before .before .before .is-map .result) (c .before .before .before .before .before .before .before .before .if1 .left)) (c .before .before .before .before .before .before .before .before .before .before .before .before .before .before .before .pre .1) (long (c .before .before .before .before .before .before .before .before .before .before .before .before .before .before .before)) (omega (arith, l .inv .few, c .before .before .before .before .before .before .if3 .left))
+    (m .result .refusal) (told (c .before .before .before) .told (l .i) (omega (arith, l .inv .room, c .before .before .before .before .before .before .before .if2 .left))) (c .before .if4 .taken)
+
+array-set-from-networks : tie.Need-array-set-from-networks Inv-loop μ-loop
+array-set-from-networks c = omega (arith, c .before .before .before .before .before .before .before .before .before .before .before .before .before .loop .inv .few, c .before .before .before .before .before .before .before .before .before .before .before .before .before .before .before .pre .1, c .before .before .before .before .before .before .if3 .left)
+
+add-at : tie.Need-add-at Inv-loop μ-loop
+add-at c = omega (arith, found (c .before .before .before .before .before .before .before .before .before .before .before) .1)
+
+add-i : tie.Need-add-i Inv-loop μ-loop
+add-i c = omega (arith, c .before .before .before .before .before .before .before .before .before .before .before .before .before .loop .inv .few, c .before .before .before .before .before .before .before .before .before .before .before .before .before .before .before .pre .1)
+
+loop-less : tie.Need-loop-less Inv-loop μ-loop
+loop-less c = omega (arith, found (c .before .before .before .before .before .before .before .before .before .before .before) .0, found (c .before .before .before .before .before .before .before .before .before .before .before) .1)
+
+loop-again : tie.Need-loop-again Inv-loop μ-loop
+loop-again c =
+    let a = c .before .before .before .before .before .before .before .before .before .before .before .before .before .before .before .args in
+    let l = c .before .before .before .before .before .before .before .before .before .before .before .before .before .loop in
+    let m = c .before .before .before .map-line in
+    let room : l .i < a .most = omega (arith, l .inv .room, c .before .before .before .before .before .before .before .if2 .left) in
+    subst (λ (e : ℕ). Going (a .most) (a .text .now) (a .from) (a .t3) (a .count) (e + 1) (l .i + 1) (set (l .networks) (l .i) (m .result .network))) (sym (c .before .before .before .before .before .before .before .before .before .before .before .find .ensures))
+    (going-more gone (a .most) (a .text .now) (a .from) (a .t3) (a .count) (l .at) (l .i) (l .networks) (l .inv) (c .before .before .before .before .before .before .before .before .before .before .before .before .loop-test .taken)
+    (sym (shape (c .before .before .before .before .before .before .before .before .before)) ∙ not-false (c .before .before .before .before .before .before .before .before .before .is-map .result) (c .before .before .before .before .before .before .before .before .if1 .left)) (c .before .before .before .before .before .before .before .before .before .before .before .before .before .before .before .pre .1) (long (c .before .before .before .before .before .before .before .before .before .before .before .before .before .before .before)) (omega (arith, l .inv .few, c .before .before .before .before .before .before .if3 .left)) room
+    (m .result .refusal) (told (c .before .before .before) .told (l .i) room) (c .before .if4 .left) (m .result .network) (told (c .before .before .before) .network (c .before .if4 .left)))
+
+add-missing : tie.Need-add-missing Inv-loop μ-loop
+add-missing c = omega (arith, c .before .before .loop .inv .few, c .before .before .before .before .pre .1)
+
+refuse-requires-5 : tie.Need-refuse-requires-5 Inv-loop μ-loop
+refuse-requires-5 c κs = search needs
 
 returns-5 : tie.Need-returns-5 Inv-loop μ-loop
 returns-5 c =
+    let a = c .before .before .before .before .before .args in
+    let l = c .before .before .before .loop in
+    c .refuse5 .ensures ∙ going-short gone (a .most) (a .text .now) (a .from) (a .t3) (a .count) (l .at) (l .i) (l .networks) (l .inv) (c .before .before .loop-test .left) (omega arith) (long (c .before .before .before .before .before)) (c .before .before .before .before .before .pre .1)
+
+returns-6 : tie.Need-returns-6 Inv-loop μ-loop
+returns-6 c =
     let a = c .before .before .before .before .args in
     let l = c .before .before .loop in
-    going-done gone (a .text .now) (a .from) (a .t3) (a .count) (l .at) (l .i) (l .networks) (l .inv) (c .before .loop-test .left) (omega arith) (long (c .before .before .before .before)) (c .before .before .before .before .pre .1)
+    going-done gone (a .most) (a .text .now) (a .from) (a .t3) (a .count) (l .at) (l .i) (l .networks) (l .inv) (c .before .loop-test .left) (omega arith) (long (c .before .before .before .before)) (c .before .before .before .before .pre .1)
 
 pub map-lines-spec : {M : Type 1} → statement M
 map-lines-spec =
@@ -179,20 +191,22 @@ map-lines-spec =
     returns
     refuse-requires-2
     returns-2
+    refuse-requires-3
+    returns-3
     mul-row
     array-copy-out-row
     sub-map-line
     part-map-line-start
     part-map-line-end
     map-line-requires
-    refuse-requires-3
-    returns-3
+    refuse-requires-4
+    returns-4
     array-set-from-networks
     add-at
     add-i
     loop-less
     loop-again
     add-missing
-    refuse-requires-4
-    returns-4
-    returns-5)
+    refuse-requires-5
+    returns-5
+    returns-6)

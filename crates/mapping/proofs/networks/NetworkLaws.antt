@@ -1,16 +1,18 @@
--- Laws of the network that a field writes: one digit, or two of which the first is not 0, and at most 31.
+-- Laws of the network that a field writes: one digit, or two of which the first is not 0, and below `most`.
 use mathlib.Core.Path.{_≡_, refl, sym, ap, _∙_}
 use mathlib.Core.Bool.{Bool, true, false, cond}
 use mathlib.Core.List.{List, [], _∷_, _++_}
 use mathlib.Core.Logic.{_⊎_, inl, inr, ⊎-elim}
 use Prim.Native.Nat.{ℕ, zero, suc, _+_, _-_, _*_, _/_, _%_, _≤_, _<_}
 use native.Mathlib.Omega.{arith}
-use lib.ListN.{length, getD}
+use lib.ListN.{length, getD, take}
+use lib.Seq.{take-all}
 use lib.Dec.{ltb}
-use borrow.Author.Tests.{lt-ltb, ltb-true, ltb-false}
+use borrow.Author.Tests.{lt-ltb, le-ltb, ltb-true, ltb-false}
 use Rattle.rules.specs.declared.Network.{Network}
 use Rattle.rules.specs.Numbers.{asNetwork}
 use Rattle.rules.specs.Lists.{upTo}
+use Rattle.text.specs.Parts.{firstIndex}
 use Rattle.text.specs.Written.{decimal}
 use Rattle.text.proofs.Parts.{true-same, same-false, first-at, first-none}
 use Rattle.text.proofs.Found.{found-is, found-nothing}
@@ -27,9 +29,6 @@ module _ {A : Type 0} where
   pub length-upTo : (n : ℕ) (f : ℕ → A) → length (upTo n f) ≡ n
   length-upTo zero f = refl
   length-upTo (suc n) f = ap suc (length-upTo n (λ k. f (suc k)))
-
-abbrev below : List ℕ
-below = upTo 32 (λ n. n)
 
 -- ---- how a number below 100 is written
 
@@ -56,91 +55,105 @@ value-decimal n h =
 pub decimal-same : (m n : ℕ) → m < 100 → n < 100 → decimal m ≡ decimal n → m ≡ n
 decimal-same m n h k e = sym (value-decimal m h) ∙ ap value e ∙ value-decimal n k
 
--- ---- the network
+-- ---- the network, of `most`
 
--- a number below 32 is read back
-pub network-found : (n : ℕ) → n < 32 → networkOf (decimal n) ≡ n
-unfolding networkOf
-network-found n h =
-    first-at (writtenAs (decimal n)) below 32 n 0 h (omega (arith, length-upTo 32 (λ (k : ℕ). k)))
-    (λ j k. ap (writtenAs (decimal n)) (getD-upTo 32 j (λ (i : ℕ). i) 0 (omega arith))
-    ∙ same-false (decimal j) (decimal n) (λ e. omega (arith, decimal-same j n (omega arith) (omega arith) e)))
-    (ap (writtenAs (decimal n)) (getD-upTo 32 n (λ (i : ℕ). i) 0 h) ∙ true-same (decimal n) (decimal n) refl)
+module _ (most : ℕ) where
+  abbrev below : List ℕ
+  below = upTo most (λ n. n)
 
-pub network-is : (x : List ℕ) (n : ℕ) → n < 32 → decimal n ≡ x → networkOf x ≡ n
-network-is x n h e = ap networkOf (sym e) ∙ network-found n h
+  -- all of them are asked
+  whole : (x : List ℕ) → firstIndex (writtenAs x) below ≡ firstIndex (writtenAs x) (take most below)
+  whole x = ap (firstIndex (writtenAs x)) (sym (take-all most below (omega (arith, length-upTo most (λ (k : ℕ). k)))))
 
-pub network-none : (x : List ℕ) → ((n : ℕ) → n < 32 → decimal n ≡ x → ⊥) → networkOf x ≡ 32
-unfolding networkOf
-network-none x f =
-    first-none (writtenAs x) below 32 0 (omega (arith, length-upTo 32 (λ (k : ℕ). k)))
-    (λ j k. ap (writtenAs x) (getD-upTo 32 j (λ (i : ℕ). i) 0 k) ∙ same-false (decimal j) x (f j k))
+  -- a number below `most` is read back
+  pub network-found : most ≤ 100 → (n : ℕ) → n < most → networkOf most (decimal n) ≡ n
+  unfolding networkOf
+  network-found few n h =
+      whole (decimal n)
+      ∙ first-at (writtenAs (decimal n)) below most n 0 h (omega (arith, length-upTo most (λ (k : ℕ). k)))
+      (λ j k. ap (writtenAs (decimal n)) (getD-upTo most j (λ (i : ℕ). i) 0 (omega arith))
+      ∙ same-false (decimal j) (decimal n) (λ e. omega (arith, decimal-same j n (omega arith) (omega arith) e)))
+      (ap (writtenAs (decimal n)) (getD-upTo most n (λ (i : ℕ). i) 0 h) ∙ true-same (decimal n) (decimal n) refl)
 
--- ---- by its bytes
+  network-none : (x : List ℕ) → ((n : ℕ) → n < most → decimal n ≡ x → ⊥) → networkOf most x ≡ most
+  unfolding networkOf
+  network-none x f =
+      whole x
+      ∙ first-none (writtenAs x) below most 0 (omega (arith, length-upTo most (λ (k : ℕ). k)))
+      (λ j k. ap (writtenAs x) (getD-upTo most j (λ (i : ℕ). i) 0 k) ∙ same-false (decimal j) x (f j k))
 
--- the first of some bytes, and the second
-abbrev first : List ℕ → ℕ
-first l = getD l 0 0
+  -- ---- by its bytes
 
-abbrev second : List ℕ → ℕ
-second l = getD l 1 0
+  -- the first of some bytes, and the second
+  abbrev first : List ℕ → ℕ
+  first l = getD l 0 0
 
-pub one-found : (a : ℕ) → 48 ≤ a → a ≤ 57 → networkOf (a ∷ []) ≡ a - 48
-one-found a h k =
-    network-is (a ∷ []) (a - 48) (omega arith) (decimal-small (a - 48) (omega arith) ∙ ap (λ (n : ℕ). n ∷ []) (let q : a - 48 + 48 ≡ a = omega arith in q))
+  abbrev second : List ℕ → ℕ
+  second l = getD l 1 0
 
-pub one-none : (a : ℕ) → (48 ≤ a → a ≤ 57 → ⊥) → networkOf (a ∷ []) ≡ 32
-one-none a f = network-none (a ∷ []) (λ n h e. ⊎-elim (low n h e) (high n h e) (low-or-high n))
-  where
-    low : (n : ℕ) → n < 32 → decimal n ≡ a ∷ [] → n < 10 → ⊥
-    low n h e k = let q = ap first (sym (decimal-small n k) ∙ e) in f (omega arith) (omega arith)
+  -- a number of one digit, and one of two
+  module _ (some : 10 ≤ most) (few : most ≤ 100) where
+    network-is : (x : List ℕ) (n : ℕ) → n < most → decimal n ≡ x → networkOf most x ≡ n
+    network-is x n h e = ap (networkOf most) (sym e) ∙ network-found few n h
 
-    high : (n : ℕ) → n < 32 → decimal n ≡ a ∷ [] → 10 ≤ n → ⊥
-    high n h e k = omega (arith, ap length (sym (two n k (omega arith)) ∙ e))
+    pub one-found : (a : ℕ) → 48 ≤ a → a ≤ 57 → networkOf most (a ∷ []) ≡ a - 48
+    one-found a h k =
+        network-is (a ∷ []) (a - 48) (omega arith) (decimal-small (a - 48) (omega arith) ∙ ap (λ (n : ℕ). n ∷ []) (let q : a - 48 + 48 ≡ a = omega arith in q))
 
-pub two-found : (a b : ℕ) → 49 ≤ a → 48 ≤ b → b ≤ 57 → (a - 48) * 10 + (b - 48) ≤ 31 → networkOf (a ∷ b ∷ []) ≡ (a - 48) * 10 + (b - 48)
-two-found a b h k m o =
-    let n = (a - 48) * 10 + (b - 48) in
-    let p : n / 10 + 48 ≡ a = omega arith in
-    let q : n % 10 + 48 ≡ b = omega arith in
-    network-is (a ∷ b ∷ []) n (omega arith) (two n (omega arith) (omega arith) ∙ ap (λ (x : ℕ). x ∷ (n % 10 + 48) ∷ []) p ∙ ap (λ (y : ℕ). a ∷ y ∷ []) q)
+    pub one-none : (a : ℕ) → (48 ≤ a → a ≤ 57 → ⊥) → networkOf most (a ∷ []) ≡ most
+    one-none a f = network-none (a ∷ []) (λ n h e. ⊎-elim (low n h e) (high n h e) (low-or-high n))
+      where
+        low : (n : ℕ) → n < most → decimal n ≡ a ∷ [] → n < 10 → ⊥
+        low n h e k = let q = ap first (sym (decimal-small n k) ∙ e) in f (omega arith) (omega arith)
 
-pub two-none : (a b : ℕ) → (49 ≤ a → 48 ≤ b → b ≤ 57 → (a - 48) * 10 + (b - 48) ≤ 31 → ⊥) → networkOf (a ∷ b ∷ []) ≡ 32
-two-none a b f = network-none (a ∷ b ∷ []) (λ n h e. ⊎-elim (low n h e) (high n h e) (low-or-high n))
-  where
-    low : (n : ℕ) → n < 32 → decimal n ≡ a ∷ b ∷ [] → n < 10 → ⊥
-    low n h e k = omega (arith, ap length (sym (decimal-small n k) ∙ e))
+        high : (n : ℕ) → n < most → decimal n ≡ a ∷ [] → 10 ≤ n → ⊥
+        high n h e k = omega (arith, ap length (sym (two n k (omega arith)) ∙ e))
 
-    high : (n : ℕ) → n < 32 → decimal n ≡ a ∷ b ∷ [] → 10 ≤ n → ⊥
-    high n h e k =
-        let w = sym (two n k (omega arith)) ∙ e in
-        let p = ap first w in
-        let q = ap second w in
-        f (omega arith) (omega arith) (omega arith) (omega arith)
+    pub two-found : (a b : ℕ) → 49 ≤ a → 48 ≤ b → b ≤ 57 → (a - 48) * 10 + (b - 48) < most → networkOf most (a ∷ b ∷ []) ≡ (a - 48) * 10 + (b - 48)
+    two-found a b h k m o =
+        let n = (a - 48) * 10 + (b - 48) in
+        let p : n / 10 + 48 ≡ a = omega arith in
+        let q : n % 10 + 48 ≡ b = omega arith in
+        network-is (a ∷ b ∷ []) n (omega arith) (two n (omega arith) (omega arith) ∙ ap (λ (x : ℕ). x ∷ (n % 10 + 48) ∷ []) p ∙ ap (λ (y : ℕ). a ∷ y ∷ []) q)
 
-pub length-none : (x : List ℕ) → (length x ≡ 1 → ⊥) → (length x ≡ 2 → ⊥) → networkOf x ≡ 32
-length-none x f g =
-    network-none x (λ n h e. ⊎-elim (λ (k : n < 10). f (ap length (sym e ∙ decimal-small n k))) (λ (k : 10 ≤ n). g (ap length (sym e ∙ two n k (omega arith)))) (low-or-high n))
+    pub two-none : (a b : ℕ) → (49 ≤ a → 48 ≤ b → b ≤ 57 → (a - 48) * 10 + (b - 48) < most → ⊥) → networkOf most (a ∷ b ∷ []) ≡ most
+    two-none a b f = network-none (a ∷ b ∷ []) (λ n h e. ⊎-elim (low n h e) (high n h e) (low-or-high n))
+      where
+        low : (n : ℕ) → n < most → decimal n ≡ a ∷ b ∷ [] → n < 10 → ⊥
+        low n h e k = omega (arith, ap length (sym (decimal-small n k) ∙ e))
 
--- ---- what is found
+        high : (n : ℕ) → n < most → decimal n ≡ a ∷ b ∷ [] → 10 ≤ n → ⊥
+        high n h e k =
+            let w = sym (two n k (omega arith)) ∙ e in
+            let p = ap first w in
+            let q = ap second w in
+            f (omega arith) (omega arith) (omega arith) (omega arith)
 
-module _ (x : List ℕ) where
-  pub found-network : (n : ℕ) → networkOf x ≡ n → n < 32 → IsNetwork (asNetwork n) ≡ foundNetwork x
-  unfolding foundNetwork
-  found-network n e h = sym (ap (λ (k : ℕ). cond (ltb k 32) (IsNetwork (asNetwork k)) NoNetwork) e ∙ ap (λ (b : Bool). cond b (IsNetwork (asNetwork n)) NoNetwork) (lt-ltb n 32 h))
+    pub length-none : (x : List ℕ) → (length x ≡ 1 → ⊥) → (length x ≡ 2 → ⊥) → networkOf most x ≡ most
+    length-none x f g =
+        network-none x (λ n h e. ⊎-elim (λ (k : n < 10). f (ap length (sym e ∙ decimal-small n k))) (λ (k : 10 ≤ n). g (ap length (sym e ∙ two n k (omega arith)))) (low-or-high n))
 
-  pub found-none : networkOf x ≡ 32 → NoNetwork ≡ foundNetwork x
-  unfolding foundNetwork
-  found-none e = sym (ap (λ (k : ℕ). cond (ltb k 32) (IsNetwork (asNetwork k)) NoNetwork) e)
+  -- ---- what is found
 
-  -- from what was found
-  pub is-found : (n : Network) → IsNetwork n ≡ foundNetwork x → (isNetwork x ≡ true) × (n ≡ asNetwork (networkOf x))
-  unfolding foundNetwork
-  is-found n e = found-is IsNetwork NoNetwork (λ a b q. cc) (λ a q. let z : _≡_ {A = ℕ} 0 1 = cc in omega arith) (isNetwork x) (asNetwork (networkOf x)) n e
+  module _ (x : List ℕ) where
+    pub found-network : (n : ℕ) → networkOf most x ≡ n → n < most → IsNetwork (asNetwork n) ≡ foundNetwork most x
+    unfolding foundNetwork
+    found-network n e h = sym (ap (λ (k : ℕ). cond (ltb k most) (IsNetwork (asNetwork k)) NoNetwork) e ∙ ap (λ (b : Bool). cond b (IsNetwork (asNetwork n)) NoNetwork) (lt-ltb n most h))
 
-  pub not-found : NoNetwork ≡ foundNetwork x → isNetwork x ≡ false
-  unfolding foundNetwork
-  not-found e = found-nothing IsNetwork NoNetwork (λ a b q. cc) (λ a q. let z : _≡_ {A = ℕ} 0 1 = cc in omega arith) (isNetwork x) (asNetwork (networkOf x)) e
+    pub found-none : networkOf most x ≡ most → NoNetwork ≡ foundNetwork most x
+    unfolding foundNetwork
+    found-none e =
+        sym (ap (λ (k : ℕ). cond (ltb k most) (IsNetwork (asNetwork k)) NoNetwork) e
+        ∙ ap (λ (b : Bool). cond b (IsNetwork (asNetwork most)) NoNetwork) (le-ltb most most (omega arith)))
+
+    -- from what was found
+    pub is-found : (n : Network) → IsNetwork n ≡ foundNetwork most x → (isNetwork most x ≡ true) × (n ≡ asNetwork (networkOf most x))
+    unfolding foundNetwork
+    is-found n e = found-is IsNetwork NoNetwork (λ a b q. cc) (λ a q. let z : _≡_ {A = ℕ} 0 1 = cc in omega arith) (isNetwork most x) (asNetwork (networkOf most x)) n e
+
+    pub not-found : NoNetwork ≡ foundNetwork most x → isNetwork most x ≡ false
+    unfolding foundNetwork
+    not-found e = found-nothing IsNetwork NoNetwork (λ a b q. cc) (λ a q. let z : _≡_ {A = ℕ} 0 1 = cc in omega arith) (isNetwork most x) (asNetwork (networkOf most x)) e
 
 -- a list by its length
 pub of-one : (x : List ℕ) → length x ≡ 1 → x ≡ getD x 0 0 ∷ []

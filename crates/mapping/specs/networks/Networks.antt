@@ -1,4 +1,4 @@
--- "Network is decimal, 0 to 31, no leading zero."
+-- "Network is decimal, 0 to 31, no leading zero"; by C-15 "network numbers to 63" under the second header. There are `most` networks: 32 or 64.
 use mathlib.Core.Bool.{Bool, cond}
 use lib.Dec.{ltb}
 use Rattle.rules.specs.declared.Network.{Network}
@@ -14,14 +14,14 @@ use Rattle.text.specs.Written.{decimal}
 abbrev pub writtenAs : List ℕ → ℕ → Bool
 writtenAs x n = sameText (decimal n) x
 
--- The network that is written so, and 32 where none is.
-unfoldable pub networkOf : List ℕ → ℕ
-networkOf x = firstIndex (writtenAs x) (upTo 32 (λ n. n))
+-- The network that is written so, and `most` where none is.
+unfoldable pub networkOf : ℕ → List ℕ → ℕ
+networkOf most x = firstIndex (writtenAs x) (upTo most (λ n. n))
 
--- 15 NETWORK: "network field malformed or above 31"
-abbrev pub isNetwork : List ℕ → Bool
-isNetwork x = ltb (networkOf x) 32
+-- 15 NETWORK: "network field malformed or above 31", by header.
+abbrev pub isNetwork : ℕ → List ℕ → Bool
+isNetwork most x = ltb (networkOf most x) most
 
 -- The network that a field is found to write.
-unfoldable pub foundNetwork : List ℕ → FoundNetwork
-foundNetwork x = cond (isNetwork x) (IsNetwork (asNetwork (networkOf x))) NoNetwork
+unfoldable pub foundNetwork : ℕ → List ℕ → FoundNetwork
+foundNetwork most x = cond (isNetwork most x) (IsNetwork (asNetwork (networkOf most x))) NoNetwork

@@ -21,7 +21,7 @@ use Rattle.plan.specs.Call.{PlanCall}
 use Rattle.plan.specs.program.Printed.{PlanPrinted}
 use Rattle.plan.proofs.PlanLongest.{plan-length}
 
-module _ (text old new : List ℕ) (r : Answer) (room : 2048 ≤ length old) (c : PlanCall text old new r) where
+module _ (text old new : List ℕ) (r : Answer) (room : 4096 ≤ length old) (c : PlanCall text old new r) where
   -- a plan has number 0
   accepted : readProtocol text .refusal .number ≡ 0 → r .refusal .number ≡ 0
   accepted z =

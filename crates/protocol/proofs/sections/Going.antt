@@ -67,7 +67,7 @@ module _ (text : List ℕ) (from from-line : ℕ) (t₀ : Tables) (at line : ℕ
       let p = passed-as message why e r z in
       record {
         on = next-on message text from from-line t₀ at line t g h why r z (withMessage t row) (stored-as message e ∙ ap (withMessage t) (sym q));
-        kept = kept-message t (g .kept) row (leb-false 32 (t .«message_count») (p .room));
+        kept = kept-message t (g .kept) row (leb-false 64 (t .«message_count») (p .room));
         placed = next-placed message text from from-line t₀ at line t g h;
         stage = g .stage;
       }

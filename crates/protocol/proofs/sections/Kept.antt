@@ -22,7 +22,7 @@ kept-cleared = record {
 }
 
 module _ (t : Tables) (k : Kept t) where
-  pub kept-message : (row : MessageRow) → t .«message_count» < 32 → Kept (withMessage t row)
+  pub kept-message : (row : MessageRow) → t .«message_count» < 64 → Kept (withMessage t row)
   unfolding withMessage
   kept-message row h = record { ok = ok-message t row h (k .ok); past = past-message t row (k .past); long = k .long }
 

@@ -81,9 +81,9 @@ module _ (text : List ℕ) (from first : ℕ) (t₀ : Tables) (at line : ℕ) (t
       of-message : sectionAt text at ≡ message
       of-message = a-message (split 9 (lineAt text at)) (of-line text at e q (λ (l : List ℕ). says (split 9 l) 0 messageWord ≡ true) w)
 
-      pub message-room : t .«message_count» < 32
+      pub message-room : t .«message_count» < 64
       message-room =
-          omega (arith, leb-false 32 (t .«message_count») (passed-as text from first t₀ at line t h message (r .refusal) of-message (message-told r m) z .room))
+          omega (arith, leb-false 64 (t .«message_count») (passed-as text from first t₀ at line t h message (r .refusal) of-message (message-told r m) z .room))
 
       pub message-on : Going message text from first t₀ (e + 1) (line + 1) (withMessage t (r .row))
       message-on =

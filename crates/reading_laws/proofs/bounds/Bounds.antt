@@ -9,7 +9,7 @@ use lib.ListN.{length, drop, length-map, length-take}
 use lib.Dec.{eqb, ltb}
 use borrow.Author.Tests.{ltb-true, ltb-false}
 use Rattle.text.specs.Parts.{split, lines}
-use Rattle.text.specs.Words.{protocolHeader, mappingHeader}
+use Rattle.text.specs.Words.{protocolHeader}
 use Rattle.text.proofs.Parts.{first-le}
 use Rattle.papers.specs.declared.Refusal.{Refusal}
 use Rattle.papers.specs.Opening.{openingOf}
@@ -22,6 +22,7 @@ use Rattle.text.specs.Line.{Line}
 use Rattle.lines.specs.Line.{Section, message, event, state, cell, unknown, sectionOf}
 use Rattle.lines.specs.Checks.{sectionChecks, lineChecks, lineRefusal}
 use Rattle.mapping.specs.declared.Mapped.{Mapped}
+use Rattle.mapping.specs.Headers.{headerOf}
 use Rattle.mapping.specs.Reading.{mapsUnless, endOf, readMaps, readMapping}
 use Rattle.mapping.specs.networks.Networks.{networkOf}
 use Rattle.text.specs.Line.{field}
@@ -114,26 +115,29 @@ end-low : (k : ℕ) (next : List MessageRow) (ns : List ℕ) → k ≤ 49153 →
 end-low k [] ns h = (omega arith, omega arith)
 end-low k (m ∷ next) ns h = (omega arith, h)
 
-maps-low : (k : ℕ) (ls : List (List ℕ)) (next : List MessageRow) (ns : List ℕ) → k + length ls ≤ 49153 → LowMapped (readMaps k ls next ns)
+maps-low : (most k : ℕ) (ls : List (List ℕ)) (next : List MessageRow) (ns : List ℕ) → k + length ls ≤ 49153 → LowMapped (readMaps most k ls next ns)
 unfolding readMaps mapRefusal
-maps-low k [] next ns h = end-low k next ns (omega (arith, h))
-maps-low k (l ∷ ls) next ns h =
+maps-low most k [] next ns h = end-low k next ns (omega (arith, h))
+maps-low most k (l ∷ ls) next ns h =
     let here : k ≤ 49153 = omega (arith, h) in
-    mapped-low (mapRefusal next k (split 9 l)) (readMaps (suc k) ls (drop 1 next) (ns ++ (networkOf (field (split 9 l) 2) ∷ [])))
-    (first-low (mapChecks next k (split 9 l)) ((omega arith, here), ((omega arith, here), ((omega arith, here), tt))))
-    (maps-low (suc k) ls (drop 1 next) (ns ++ (networkOf (field (split 9 l) 2) ∷ [])) (omega (arith, h)))
+    mapped-low (mapRefusal most (length ns) next k (split 9 l)) (readMaps most (suc k) ls (drop 1 next) (ns ++ (networkOf most (field (split 9 l) 2) ∷ [])))
+    (first-low (mapChecks most (length ns) next k (split 9 l)) ((omega arith, here), ((omega arith, here), ((omega arith, here), ((omega arith, here), tt)))))
+    (maps-low most (suc k) ls (drop 1 next) (ns ++ (networkOf most (field (split 9 l) 2) ∷ [])) (omega (arith, h)))
 
 pub mapping-low : MappingLow
 unfolding readMapping
 mapping-low messages text = ⊎-elim small big (fits-or-not (length text))
   where
+    line : List ℕ
+    line = headerOf text .line
+
     body : Mapped
-    body = readMaps 2 (drop 1 (lines text)) messages []
+    body = readMaps (headerOf text .most) 2 (drop 1 (lines text)) messages []
 
     small : length text ≤ 49152 → LowMapped (readMapping messages text)
     small h =
-        mapped-low (openingOf mappingHeader text) body (opening-low mappingHeader text h)
-        (maps-low 2 (drop 1 (lines text)) messages [] (omega (arith, lines-le text, h)))
+        mapped-low (openingOf line text) body (opening-low line text h)
+        (maps-low (headerOf text .most) 2 (drop 1 (lines text)) messages [] (omega (arith, lines-le text, h)))
 
     big : 49152 < length text → LowMapped (readMapping messages text)
-    big h = subst (λ (r : Refusal). LowMapped (mapsUnless r body)) (sym (too-big mappingHeader text h)) (omega arith, omega arith)
+    big h = subst (λ (r : Refusal). LowMapped (mapsUnless r body)) (sym (too-big line text h)) (omega arith, omega arith)

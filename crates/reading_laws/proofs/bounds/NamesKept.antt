@@ -31,7 +31,7 @@ use Rattle.reading_laws.specs.bounds.Bounds.{Named, NamesKept}
 
 named-cleared : Named clearedTables
 unfolding clearedTables
-named-cleared = record { long = length-replicate 32 noMessage; short = no-name 32; names = λ i h. absurd (omega (arith, h)) }
+named-cleared = record { long = length-replicate 64 noMessage; short = no-name 64; names = λ i h. absurd (omega (arith, h)) }
   where
     no-name : (n i : ℕ) → length (nameText (getD (replicate n noMessage) i noMessage .name)) ≤ 24
     no-name zero i = omega (arith, ap length (name-text []))
@@ -42,7 +42,7 @@ name-here : (f : Line) → badName message f ≡ false → nameRule (nameText (m
 unfolding messageOf
 name-here f e = ap nameRule (name-text (field f 1)) ∙ not-false (nameRule (field f 1)) e
 
-named-message : (t : Tables) (row : MessageRow) → Named t → t .«message_count» < 32 → nameRule (nameText (row .name)) ≡ true → Named (withMessage t row)
+named-message : (t : Tables) (row : MessageRow) → Named t → t .«message_count» < 64 → nameRule (nameText (row .name)) ≡ true → Named (withMessage t row)
 unfolding withMessage
 named-message t row n h g =
     record {
@@ -78,7 +78,7 @@ named-message t row n h g =
 
 named-stored : (s : Section) (t : Tables) (f : Line) → Named t → badName s f ≡ false → full s t ≡ false → Named (storedIn s t f)
 unfolding withEvent withState withCell
-named-stored message t f n e g = named-message t (messageOf f) n (omega (arith, leb-false 32 (t .«message_count») g)) (name-here f e)
+named-stored message t f n e g = named-message t (messageOf f) n (omega (arith, leb-false 64 (t .«message_count») g)) (name-here f e)
 named-stored event t f n e g = record { long = n .long; short = n .short; names = n .names }
 named-stored state t f n e g = record { long = n .long; short = n .short; names = n .names }
 named-stored cell t f n e g = record { long = n .long; short = n .short; names = n .names }

@@ -6,12 +6,11 @@ use mathlib.Core.Logic.{_⊎_, inl, inr, ⊎-elim}
 use Prim.Native.Nat.{ℕ, zero, suc, _+_, _<_}
 use native.Mathlib.Omega.{arith}
 use native.Mathlib.Nat.{add-zero}
-use lib.ListN.{length, getD, drop, replicate}
+use lib.ListN.{length, getD, drop, replicate, length-append}
 use lib.Seq.{drop-drop}
 use lib.Dec.{eqb}
 use borrow.Author.Tests.{eqb-true, eqb-false, not-false, ltb-true}
 use Rattle.text.specs.Parts.{split, lines}
-use Rattle.text.specs.Words.{mappingHeader}
 use Rattle.papers.specs.declared.Refusal.{Refusal}
 use Rattle.papers.specs.Checks.{Check, check, refusal, firstOf}
 use Rattle.papers.specs.Opening.{openingChecks, openingOf, Opens}
@@ -21,32 +20,39 @@ use Rattle.tables.specs.declared.MessageRow.{MessageRow}
 use Rattle.tables.proofs.AllCells.{getD-zeros}
 use Rattle.mapping.specs.declared.Mapped.{Mapped}
 use Rattle.text.specs.Line.{field}
-use Rattle.mapping.specs.lines.Line.{mapShaped, matches, mapChecks, mapRefusal}
+use Rattle.mapping.specs.lines.Line.{mapShaped, mapsFull, matches, mapChecks, mapRefusal}
 use Rattle.mapping.specs.networks.Networks.{networkOf, isNetwork}
+use Rattle.mapping.specs.Headers.{headerOf}
 use Rattle.mapping.specs.Reading.{mapsAccepted, mapsRefused, readMaps, readMapping}
 use Rattle.reading_laws.specs.mappings.Why.{MapsPassed, BadMap, MapsEndEarly, MapsAccepted, BadMapOpening, MapsAnswered, MappingAnswered, MappingAccepted, BadTold}
 use Rattle.mapping.proofs.ReadLaws.{maps-more, maps-stop, reading-refused, reading-opened}
 
 -- ---- a line that gives no refusal
 
-module _ (next : List MessageRow) (k : ℕ) (f : List (List ℕ)) (e : mapRefusal next k f .number ≡ 0) where
-  abbrev rest : List Check
-  rest = check 14 k (not (matches next (field f 1))) ∷ check 15 k (not (isNetwork (field f 2))) ∷ []
+module _ (most before : ℕ) (next : List MessageRow) (k : ℕ) (f : List (List ℕ)) (e : mapRefusal most before next k f .number ≡ 0) where
+  abbrev full : Check
+  full = check 9 k (mapsFull most before)
 
-  after-shape : (not (mapShaped f) ≡ false) × (firstOf rest .number ≡ 0)
+  abbrev match : Check
+  match = check 14 k (not (matches next (field f 1)))
+
+  abbrev network : Check
+  network = check 15 k (not (isNetwork most (field f 2)))
+
+  after-shape : (not (mapShaped f) ≡ false) × (firstOf (full ∷ match ∷ network ∷ []) .number ≡ 0)
   unfolding mapRefusal
-  after-shape = passed-by (check 4 k (not (mapShaped f))) (rest) (λ z. omega arith) e
+  after-shape = passed-by (check 4 k (not (mapShaped f))) (full ∷ match ∷ network ∷ []) (λ z. omega arith) e
 
-  after-match : (not (matches next (field f 1)) ≡ false) × (firstOf (check 15 k (not (isNetwork (field f 2))) ∷ []) .number ≡ 0)
-  after-match = passed-by (check 14 k (not (matches next (field f 1)))) (check 15 k (not (isNetwork (field f 2))) ∷ []) (λ z. omega arith) (after-shape .1)
+  after-match : (not (matches next (field f 1)) ≡ false) × (firstOf (network ∷ []) .number ≡ 0)
+  after-match = passed-by match (network ∷ []) (λ z. omega arith) (passed-by full (match ∷ network ∷ []) (λ z. omega arith) (after-shape .1) .1)
 
   pub line-matches : matches next (field f 1) ≡ true
   line-matches = not-false (matches next (field f 1)) (after-match .0)
 
-  pub line-network : networkOf (field f 2) < 32
+  pub line-network : networkOf most (field f 2) < most
   line-network =
-      ltb-true (networkOf (field f 2)) 32
-      (not-false (isNetwork (field f 2)) (passed-by (check 15 k (not (isNetwork (field f 2)))) [] (λ z. omega arith) (after-match .1) .0))
+      ltb-true (networkOf most (field f 2)) most
+      (not-false (isNetwork most (field f 2)) (passed-by network [] (λ z. omega arith) (after-match .1) .0))
 
 -- one message at least
 some-next : (next : List MessageRow) (x : List ℕ) → matches next x ≡ true → length next ≡ suc (length (drop 1 next))
@@ -56,27 +62,31 @@ some-next (m ∷ next) x e = refl
 -- ---- the three ways that the lines can end
 
 -- Accepted, a bad line, or the text ends early.
-abbrev pub MapsAnswer : List MessageRow → ℕ → List (List ℕ) → List ℕ → Type 0
-MapsAnswer next k ls ns =
-    MapsAccepted next k ls ns (readMaps k ls next ns) ⊎ (BadMap next k ls (readMaps k ls next ns) ⊎ MapsEndEarly next k ls (readMaps k ls next ns))
+abbrev pub MapsAnswer : ℕ → ℕ → List MessageRow → ℕ → List (List ℕ) → List ℕ → Type 0
+MapsAnswer most before next k ls ns =
+    MapsAccepted most before next k ls ns (readMaps most k ls next ns)
+    ⊎ (BadMap most before next k ls (readMaps most k ls next ns) ⊎ MapsEndEarly most before next k ls (readMaps most k ls next ns))
 
-module _ (next : List MessageRow) (k : ℕ) (l : List ℕ) (ls : List (List ℕ)) (e : mapRefusal next k (split 9 l) .number ≡ 0) where
-  more-at : (i : ℕ) → mapRefusal (drop i (drop 1 next)) (suc k + i) (split 9 (getD ls i [])) ≡ mapRefusal (drop (suc i) next) (k + suc i) (split 9 (getD (l ∷ ls) (suc i) []))
+module _ (most before : ℕ) (next : List MessageRow) (k : ℕ) (l : List ℕ) (ls : List (List ℕ)) (e : mapRefusal most before next k (split 9 l) .number ≡ 0) where
+  more-at : (i : ℕ) → mapRefusal most (suc before + i) (drop i (drop 1 next)) (suc k + i) (split 9 (getD ls i []))
+      ≡ mapRefusal most (before + suc i) (drop (suc i) next) (k + suc i) (split 9 (getD (l ∷ ls) (suc i) []))
   more-at i =
+      let b : suc before + i ≡ before + suc i = omega arith in
       let p : suc k + i ≡ k + suc i = omega arith in
       let q : drop i (drop 1 next) ≡ drop (suc i) next = drop-drop i 1 next ∙ ap (λ (j : ℕ). drop j next) (let s : 1 + i ≡ suc i = omega arith in s) in
-      ap₂ (λ (m : List MessageRow) (n : ℕ). mapRefusal m n (split 9 (getD ls i []))) q p
+      ap (λ (j : ℕ). mapRefusal most j (drop i (drop 1 next)) (suc k + i) (split 9 (getD ls i []))) b
+      ∙ ap₂ (λ (m : List MessageRow) (n : ℕ). mapRefusal most (before + suc i) m n (split 9 (getD ls i []))) q p
 
-  passed-more : (j : ℕ) → MapsPassed (drop 1 next) (suc k) ls j → MapsPassed next k (l ∷ ls) (suc j)
+  passed-more : (j : ℕ) → MapsPassed most (suc before) (drop 1 next) (suc k) ls j → MapsPassed most before next k (l ∷ ls) (suc j)
   passed-more j h = record { lines = at }
     where
-      at : (i : ℕ) → i < suc j → mapRefusal (drop i next) (k + i) (split 9 (getD (l ∷ ls) i [])) .number ≡ 0
-      at zero g = ap (λ (n : ℕ). mapRefusal next n (split 9 l) .number) (add-zero k) ∙ e
+      at : (i : ℕ) → i < suc j → mapRefusal most (before + i) (drop i next) (k + i) (split 9 (getD (l ∷ ls) i [])) .number ≡ 0
+      at zero g = ap₂ (λ (j n : ℕ). mapRefusal most j next n (split 9 l) .number) (add-zero before) (add-zero k) ∙ e
       at (suc i) g = ap (λ (r : Refusal). r .number) (sym (more-at i)) ∙ h .lines i (omega arith)
 
   -- the same answer, one line on
   module _ (r s : Mapped) (on : r ≡ s) where
-    more-bad : BadMap (drop 1 next) (suc k) ls s → BadMap next k (l ∷ ls) r
+    more-bad : BadMap most (suc before) (drop 1 next) (suc k) ls s → BadMap most before next k (l ∷ ls) r
     more-bad b =
         record {
           place = suc (b .place);
@@ -87,7 +97,7 @@ module _ (next : List MessageRow) (k : ℕ) (l : List ℕ) (ls : List (List ℕ)
         }
 
     module _ (step : length next ≡ suc (length (drop 1 next))) where
-      more-early : MapsEndEarly (drop 1 next) (suc k) ls s → MapsEndEarly next k (l ∷ ls) r
+      more-early : MapsEndEarly most (suc before) (drop 1 next) (suc k) ls s → MapsEndEarly most before next k (l ∷ ls) r
       more-early d =
           let q : suc k + length ls ≡ k + suc (length ls) = omega arith in
           record {
@@ -96,29 +106,29 @@ module _ (next : List MessageRow) (k : ℕ) (l : List ℕ) (ls : List (List ℕ)
             is = on ∙ d .is ∙ ap (λ (j : ℕ). mapsRefused (refusal 14 j)) q;
           }
 
-      more-accepted : (ns : List ℕ) → MapsAccepted (drop 1 next) (suc k) ls (ns ++ (networkOf (field (split 9 l) 2) ∷ [])) s → MapsAccepted next k (l ∷ ls) ns r
+      more-accepted : (ns : List ℕ) → MapsAccepted most (suc before) (drop 1 next) (suc k) ls (ns ++ (networkOf most (field (split 9 l) 2) ∷ [])) s → MapsAccepted most before next k (l ∷ ls) ns r
       more-accepted ns a =
           record {
             before = passed-more (length ls) (a .before);
             long = omega (arith, a .long);
-            ns = networkOf (field (split 9 l) 2) ∷ a .ns;
+            ns = networkOf most (field (split 9 l) 2) ∷ a .ns;
             count = omega (arith, a .count);
             gives = given;
             below = at;
-            is = on ∙ a .is ∙ ap mapsAccepted (append-assoc ns (networkOf (field (split 9 l) 2) ∷ []) (a .ns));
+            is = on ∙ a .is ∙ ap mapsAccepted (append-assoc ns (networkOf most (field (split 9 l) 2) ∷ []) (a .ns));
           }
         where
-          given : (i : ℕ) → i < suc (length (a .ns)) → getD (networkOf (field (split 9 l) 2) ∷ a .ns) i 0 ≡ networkOf (field (split 9 (getD (l ∷ ls) i [])) 2)
+          given : (i : ℕ) → i < suc (length (a .ns)) → getD (networkOf most (field (split 9 l) 2) ∷ a .ns) i 0 ≡ networkOf most (field (split 9 (getD (l ∷ ls) i [])) 2)
           given zero h = refl
           given (suc i) h = a .gives i (omega arith)
 
-          at : (i : ℕ) → i < suc (length (a .ns)) → getD (networkOf (field (split 9 l) 2) ∷ a .ns) i 0 < 32
-          at zero h = line-network next k (split 9 l) e
+          at : (i : ℕ) → i < suc (length (a .ns)) → getD (networkOf most (field (split 9 l) 2) ∷ a .ns) i 0 < most
+          at zero h = line-network most before next k (split 9 l) e
           at (suc i) h = a .below i (omega arith)
 
-pub answered : (ls : List (List ℕ)) (next : List MessageRow) (k : ℕ) (ns : List ℕ) → MapsAnswer next k ls ns
+pub answered : (most before : ℕ) (ls : List (List ℕ)) (next : List MessageRow) (k : ℕ) (ns : List ℕ) → length ns ≡ before → MapsAnswer most before next k ls ns
 unfolding readMaps
-answered [] [] k ns =
+answered most before [] [] k ns q =
     inl
     (record {
       before = record { lines = λ i h. absurd (omega arith) };
@@ -129,32 +139,39 @@ answered [] [] k ns =
       below = λ i h. absurd (omega arith);
       is = ap mapsAccepted (sym (append-nil ns));
     })
-answered [] (m ∷ next) k ns =
+answered most before [] (m ∷ next) k ns q =
     inr (inr (record { before = record { lines = λ i h. absurd (omega arith) }; short = omega arith; is = ap (λ (j : ℕ). mapsRefused (refusal 14 j)) (sym (add-zero k)) }))
-answered (l ∷ ls) next k ns =
-    go (eqb (mapRefusal next k (split 9 l) .number) 0) refl (answered ls (drop 1 next) (suc k) (ns ++ (networkOf (field (split 9 l) 2) ∷ [])))
+answered most before (l ∷ ls) next k ns q =
+    go (eqb (mapRefusal most before next k (split 9 l) .number) 0) refl
+    (answered most (suc before) ls (drop 1 next) (suc k) (ns ++ (networkOf most (field (split 9 l) 2) ∷ [])) (omega (arith, length-append ns (networkOf most (field (split 9 l) 2) ∷ []), q)))
   where
-    go : (t : Bool) → eqb (mapRefusal next k (split 9 l) .number) 0 ≡ t → MapsAnswer (drop 1 next) (suc k) ls (ns ++ (networkOf (field (split 9 l) 2) ∷ []))
-        → MapsAnswer next k (l ∷ ls) ns
+    -- the line's refusal, as the reading has it
+    same : mapRefusal most (length ns) next k (split 9 l) ≡ mapRefusal most before next k (split 9 l)
+    same = ap (λ (j : ℕ). mapRefusal most j next k (split 9 l)) q
+
+    go : (t : Bool) → eqb (mapRefusal most before next k (split 9 l) .number) 0 ≡ t → MapsAnswer most (suc before) (drop 1 next) (suc k) ls (ns ++ (networkOf most (field (split 9 l) 2) ∷ []))
+        → MapsAnswer most before next k (l ∷ ls) ns
     go true e w =
-        let z = eqb-true (mapRefusal next k (split 9 l) .number) 0 e in
-        let on = maps-more k l ls next ns z in
-        let step = some-next next (field (split 9 l) 1) (line-matches next k (split 9 l) z) in
-        ⊎-elim (λ (a : MapsAccepted (drop 1 next) (suc k) ls (ns ++ (networkOf (field (split 9 l) 2) ∷ [])) (readMaps (suc k) ls (drop 1 next) (ns ++ (networkOf (field (split 9 l) 2) ∷ [])))).
-        inl (more-accepted next k l ls z (readMaps k (l ∷ ls) next ns) (readMaps (suc k) ls (drop 1 next) (ns ++ (networkOf (field (split 9 l) 2) ∷ []))) on step ns a))
-        (⊎-elim (λ (b : BadMap (drop 1 next) (suc k) ls (readMaps (suc k) ls (drop 1 next) (ns ++ (networkOf (field (split 9 l) 2) ∷ [])))).
-        inr (inl (more-bad next k l ls z (readMaps k (l ∷ ls) next ns) (readMaps (suc k) ls (drop 1 next) (ns ++ (networkOf (field (split 9 l) 2) ∷ []))) on b)))
-        (λ (d : MapsEndEarly (drop 1 next) (suc k) ls (readMaps (suc k) ls (drop 1 next) (ns ++ (networkOf (field (split 9 l) 2) ∷ [])))).
-        inr (inr (more-early next k l ls z (readMaps k (l ∷ ls) next ns) (readMaps (suc k) ls (drop 1 next) (ns ++ (networkOf (field (split 9 l) 2) ∷ []))) on step d)))) w
+        let z = eqb-true (mapRefusal most before next k (split 9 l) .number) 0 e in
+        let more = readMaps most (suc k) ls (drop 1 next) (ns ++ (networkOf most (field (split 9 l) 2) ∷ [])) in
+        let on = maps-more most k l ls next ns (ap (λ (r : Refusal). r .number) same ∙ z) in
+        let step = some-next next (field (split 9 l) 1) (line-matches most before next k (split 9 l) z) in
+        ⊎-elim (λ (a : MapsAccepted most (suc before) (drop 1 next) (suc k) ls (ns ++ (networkOf most (field (split 9 l) 2) ∷ [])) more).
+        inl (more-accepted most before next k l ls z (readMaps most k (l ∷ ls) next ns) more on step ns a))
+        (⊎-elim (λ (b : BadMap most (suc before) (drop 1 next) (suc k) ls more).
+        inr (inl (more-bad most before next k l ls z (readMaps most k (l ∷ ls) next ns) more on b)))
+        (λ (d : MapsEndEarly most (suc before) (drop 1 next) (suc k) ls more).
+        inr (inr (more-early most before next k l ls z (readMaps most k (l ∷ ls) next ns) more on step d)))) w
     go false e w =
-        let z = eqb-false (mapRefusal next k (split 9 l) .number) 0 e in
-        let here : mapRefusal next k (split 9 l) ≡ mapRefusal next (k + 0) (split 9 l) = ap (λ (j : ℕ). mapRefusal next j (split 9 l)) (sym (add-zero k)) in
+        let z = eqb-false (mapRefusal most before next k (split 9 l) .number) 0 e in
+        let here : mapRefusal most before next k (split 9 l) ≡ mapRefusal most (before + 0) next (k + 0) (split 9 l) =
+        ap₂ (λ (j n : ℕ). mapRefusal most j next n (split 9 l)) (sym (add-zero before)) (sym (add-zero k)) in
         inr (inl (record {
           place = 0;
           below = omega arith;
           before = record { lines = λ i h. absurd (omega arith) };
           bad = λ q. z (ap (λ (r : Refusal). r .number) here ∙ q);
-          is = maps-stop k l ls next ns z ∙ ap mapsRefused here;
+          is = maps-stop most k l ls next ns (λ g. z (sym (ap (λ (r : Refusal). r .number) same) ∙ g)) ∙ ap mapsRefused (same ∙ here);
         }))
 
 -- ---- the whole text
@@ -162,32 +179,36 @@ answered (l ∷ ls) next k ns =
 -- every answer is under its row
 pub mapping-answered : MappingAnswered
 unfolding openingOf
-mapping-answered messages text = go (eqb (openingOf mappingHeader text .number) 0) refl
+mapping-answered messages text = go (eqb (openingOf (headerOf text .line) text .number) 0) refl
   where
-    go : (t : Bool) → eqb (openingOf mappingHeader text .number) 0 ≡ t
-        → BadMapOpening text (readMapping messages text) ⊎ (Opens mappingHeader text × MapsAnswered messages text (readMapping messages text))
+    go : (t : Bool) → eqb (openingOf (headerOf text .line) text .number) 0 ≡ t
+        → BadMapOpening text (readMapping messages text) ⊎ (Opens (headerOf text .line) text × MapsAnswered messages text (readMapping messages text))
     go true e =
-        let z = eqb-true (openingOf mappingHeader text .number) 0 e in
-        inr (z, subst (MapsAnswered messages text) (sym (reading-opened messages text z)) (answered (drop 1 (lines text)) messages 2 []))
+        let z = eqb-true (openingOf (headerOf text .line) text .number) 0 e in
+        inr (z, subst (MapsAnswered messages text) (sym (reading-opened messages text (headerOf text) refl z)) (answered (headerOf text .most) 0 (drop 1 (lines text)) messages 2 [] refl))
     go false e =
-        let z = eqb-false (openingOf mappingHeader text .number) 0 e in
-        inl (record { told = only-given (openingChecks mappingHeader text) (openingOf mappingHeader text .number) refl z; is = reading-refused messages text z })
+        let z = eqb-false (openingOf (headerOf text .line) text .number) 0 e in
+        inl (record { told = only-given (openingChecks (headerOf text .line) text) (openingOf (headerOf text .line) text .number) refl z; is = reading-refused messages text (headerOf text) refl z })
 
 -- a mapping that is not refused gives each message a network
 pub mapping-accepted : MappingAccepted
 mapping-accepted messages text h =
-    ⊎-elim (λ (w : BadMapOpening text (readMapping messages text)). absurd (numbered (openingChecks mappingHeader text) (openingOf mappingHeader text) (opening-rows mappingHeader text) (w .told) (sym (ap (λ (r : Mapped). r .refusal .number) (w .is)) ∙ h)))
-    (λ (v : Opens mappingHeader text × MapsAnswered messages text (readMapping messages text)).
-    ⊎-elim (λ (w : MapsAccepted messages 2 (drop 1 (lines text)) [] (readMapping messages text)). w)
-    (⊎-elim (λ (w : BadMap messages 2 (drop 1 (lines text)) (readMapping messages text)). absurd (w .bad (sym (ap (λ (r : Mapped). r .refusal .number) (w .is)) ∙ h)))
-    (λ (w : MapsEndEarly messages 2 (drop 1 (lines text)) (readMapping messages text)). absurd (omega (arith, ap (λ (r : Mapped). r .refusal .number) (w .is))))) (v .1))
+    let r = readMapping messages text in
+    let line = headerOf text .line in
+    let most = headerOf text .most in
+    let ls = drop 1 (lines text) in
+    ⊎-elim (λ (w : BadMapOpening text r). absurd (numbered (openingChecks line text) (openingOf line text) (opening-rows line text) (w .told) (sym (ap (λ (r : Mapped). r .refusal .number) (w .is)) ∙ h)))
+    (λ (v : Opens line text × MapsAnswered messages text r).
+    ⊎-elim (λ (w : MapsAccepted most 0 messages 2 ls [] r). w)
+    (⊎-elim (λ (w : BadMap most 0 messages 2 ls r). absurd (w .bad (sym (ap (λ (r : Mapped). r .refusal .number) (w .is)) ∙ h)))
+    (λ (w : MapsEndEarly most 0 messages 2 ls r). absurd (omega (arith, ap (λ (r : Mapped). r .refusal .number) (w .is))))) (v .1))
     (mapping-answered messages text)
 
 -- the row of a bad line
 pub bad-told : BadTold
 unfolding mapRefusal
-bad-told next k ls r w =
-    let cs = mapChecks (drop (w .place) next) (k + w .place) (split 9 (getD ls (w .place) [])) in
+bad-told most before next k ls r w =
+    let cs = mapChecks most (before + w .place) (drop (w .place) next) (k + w .place) (split 9 (getD ls (w .place) [])) in
     only-given cs (firstOf cs .number) refl (w .bad)
 
 -- ---- the networks that are given

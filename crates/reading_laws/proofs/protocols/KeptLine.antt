@@ -16,7 +16,7 @@ use Rattle.protocol.specs.whole.Kept.{Kept}
 use Rattle.protocol.proofs.sections.Kept.{kept-message, kept-event, kept-state, kept-cell}
 
 kept-in : (s : Section) (t : Tables) (k : ℕ) (f : Line) → Kept t → firstOf (sectionChecks s t k f) .number ≡ 0 → Kept (storedIn s t f)
-kept-in message t k f h z = kept-message t h (messageOf f) (leb-false 32 (t .«message_count») (passed message t k f z .room))
+kept-in message t k f h z = kept-message t h (messageOf f) (leb-false 64 (t .«message_count») (passed message t k f z .room))
 kept-in event t k f h z = kept-event t h (eventOf f) (leb-false 8 (t .«event_count») (passed event t k f z .room))
 kept-in state t k f h z = kept-state t h (stateOf f) (leb-false 64 (t .«state_count») (passed state t k f z .room))
 kept-in cell t k f h z =

@@ -31,11 +31,11 @@ use Rattle.reading_laws.proofs.protocols.WrittenFields.{first-word, con
 
 -- The tables have room for all that is counted.
 pub record Sized (t : Tables) : Type 0 where
-  pub messages : length (t .messages) ≡ 32
+  pub messages : length (t .messages) ≡ 64
   pub events : length (t .events) ≡ 8
   pub states : length (t .states) ≡ 64
   pub cells : length (t .cells) ≡ 512
-  pub few-messages : t .«message_count» ≤ 32
+  pub few-messages : t .«message_count» ≤ 64
   pub few-events : t .«event_count» ≤ 8
   pub few-states : t .«state_count» ≤ 64
 

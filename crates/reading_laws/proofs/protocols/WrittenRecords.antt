@@ -135,7 +135,7 @@ pub sized-cleared : Sized clearedTables
 unfolding clearedTables
 sized-cleared =
     record {
-      messages = length-replicate 32 noMessage;
+      messages = length-replicate 64 noMessage;
       events = length-replicate 8 noEvent;
       states = length-replicate 64 noState;
       cells = length-replicate 512 noCell;
@@ -163,7 +163,7 @@ module _ (t : Tables) (z : Sized t) (f : Line) where
   grown-message : sectionOf f ≡ message → Passed message t f → Grown t (withMessage t (messageOf f)) f
   unfolding withMessage
   grown-message e p =
-      let room = leb-false 32 (t .«message_count») (p .room) in
+      let room = leb-false 64 (t .«message_count») (p .room) in
       let later = none-later (t .«event_count» + t .«state_count» + t .«cell_count») (p .order) in
       record {
         sized =

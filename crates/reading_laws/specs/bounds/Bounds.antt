@@ -21,9 +21,9 @@ ProtocolLow = (text : List ℕ) → Low (readProtocol text .refusal .number) (re
 abbrev pub MappingLow : Type 0
 MappingLow = (messages : List MessageRow) (text : List ℕ) → Low (readMapping messages text .refusal .number) (readMapping messages text .refusal .line)
 
--- The rows of messages: there are 32, the name of each declared message keeps the name rule, and no row has a longer name.
+-- The rows of messages: there are 64, the name of each declared message keeps the name rule, and no row has a longer name.
 pub record Named (t : Tables) : Type 0 where
-  pub long : length (t .messages) ≡ 32
+  pub long : length (t .messages) ≡ 64
   pub short : (i : ℕ) → length (nameText (getD (t .messages) i noMessage .name)) ≤ 24
   pub names : (i : ℕ) → i < t .«message_count» → nameRule (nameText (getD (t .messages) i noMessage .name)) ≡ true
 

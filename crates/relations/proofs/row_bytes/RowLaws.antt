@@ -2,7 +2,7 @@
 use Prim.Native.Nat.{ℕ, zero, suc, _+_, _*_, _<_, _≤_, _^_}
 use mathlib.Core.Path.{_≡_, refl, sym, subst, ap, _∙_}
 use mathlib.Core.Logic.{_⊎_, inl, inr, _≢_}
-use mathlib.Core.List.{List, _∷_}
+use mathlib.Core.List.{List, [], _∷_}
 use native.Mathlib.Decide.{decLt}
 use native.Mathlib.Nat.{mul-zero, mul-suc}
 use native.Mathlib.Omega.{arith}
@@ -15,7 +15,7 @@ use Rattle.rows.proofs.Bits.{bit?, same-bits}
 use Rattle.rows.proofs.FillingRows.{FillingRows, fill-step, fill-each, fill-kept}
 use Rattle.rows.proofs.Together.{Together}
 use Rattle.waits.specs.Waiting.{Tidy}
-use Rattle.relations.specs.row_bytes.RowBytes.{fromBytes, rowsOfBytes, rowAt, Loaded}
+use Rattle.relations.specs.row_bytes.RowBytes.{RowSize, fromBytes, rowsOfBytes, rowAt, Loaded}
 
 -- ---- a row by its place
 
@@ -47,6 +47,52 @@ four-bytes table k h =
       from table (k + 2) (k + 3) (omega arith) (omega arith),
       from table (k + 3) (k + 4) (omega arith) (omega arith),
     ) (omega arith)
+
+-- ---- 8 bytes
+
+none : (k : ℕ) → fromBytes (take k []) ≡ 0
+none zero = refl
+none (suc k) = refl
+
+from-append : (k : ℕ) (l : List ℕ) → fromBytes (take (suc (suc (suc (suc k)))) l) ≡ fromBytes (take 4 l) + 4294967296 * fromBytes (take k (drop 4 l))
+from-append k [] = omega (arith, none k)
+from-append k (a ∷ []) = omega (arith, none k)
+from-append k (a ∷ b ∷ []) = omega (arith, none k)
+from-append k (a ∷ b ∷ c ∷ []) = omega (arith, none k)
+from-append k (a ∷ b ∷ c ∷ d ∷ l) = omega arith
+
+eight-bytes : (table : List ℕ) (k : ℕ) → fromBytes (take 8 (drop k table)) ≡ fromBytes (take 4 (drop k table)) + fromBytes (take 4 (drop (k + 4) table)) * 4294967296
+eight-bytes table k = omega (arith, from-append 4 (drop k table), ap (λ (l : List ℕ). fromBytes (take 4 l)) (drop-drop 4 k table))
+
+-- a row of 4 bytes, and one of 8 by its two halves
+pub row-narrow : (size : ℕ) (table : List ℕ) (k r : ℕ) → size ≡ 4 → r ≡ fromBytes (take 4 (drop k table)) → r ≡ fromBytes (take size (drop k table))
+row-narrow size table k r e q = q ∙ ap (λ (j : ℕ). fromBytes (take j (drop k table))) (sym e)
+
+pub row-halves : (size : ℕ) (table : List ℕ) (k low high : ℕ) → RowSize size → size ≢ 4 → low ≡ fromBytes (take 4 (drop k table)) → high ≡ fromBytes (take 4 (drop (k + 4) table))
+    → low + high * 4294967296 ≡ fromBytes (take size (drop k table))
+row-halves size table k low high (inl e) g p q = absurd (g e)
+row-halves size table k low high (inr e) g p q =
+    let h : low + high * 4294967296 ≡ fromBytes (take 8 (drop k table)) = omega (arith, p, q, eight-bytes table k) in
+    h ∙ ap (λ (j : ℕ). fromBytes (take j (drop k table))) (sym e)
+
+-- ---- a row within its table
+
+-- the first four bytes of a row from place k on, and the next four of a row of 8
+pub first-within : (size k long : ℕ) → RowSize size → k + size ≤ long → k + 4 ≤ long
+first-within size k long (inl e) h = omega (arith, e)
+first-within size k long (inr e) h = omega (arith, e)
+
+pub next-within : (size k long : ℕ) → RowSize size → size ≢ 4 → k + size ≤ long → k + 4 + 4 ≤ long
+next-within size k long (inl e) g h = absurd (g e)
+next-within size k long (inr e) g h = omega (arith, e)
+
+pub row-within : (size n i : ℕ) → RowSize size → i < n → size * i + size ≤ size * n
+row-within size n i (inl e) h = rw e (omega arith)
+row-within size n i (inr e) h = rw e (omega arith)
+
+pub table-small : (size n : ℕ) → RowSize size → n ≤ 64 → size * n ≤ 512
+table-small size n (inl e) h = rw e (omega arith)
+table-small size n (inr e) h = rw e (omega arith)
 
 -- ---- the rows of a table, laid in rows
 

@@ -7,14 +7,11 @@ use Rattle.rows.proofs.all_below.Tie as tie
 sub-result : tie.Need-sub-result
 sub-result c = search needs
 
-cast-result : tie.Need-cast-result
-cast-result c = search needs
-
 shr-result : tie.Need-shr-result
 shr-result c = search needs
 
 returns : tie.Need-returns
-returns c = all-below 32 (c .args .n) (c .pre .1)
+returns c = all-below 64 (c .args .n) (c .pre .1)
 
 pub all-below-spec : {M : Type 1} → statement M
-all-below-spec = tie.close (tie.spec sub-result cast-result shr-result returns)
+all-below-spec = tie.close (tie.spec sub-result shr-result returns)

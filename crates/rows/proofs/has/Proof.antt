@@ -4,9 +4,6 @@ use borrow.Author.Needs.{needs}
 use Rattle.rows.proofs.has.Statement.{statement}
 use Rattle.rows.proofs.has.Tie as tie
 
-cast-result : tie.Need-cast-result
-cast-result c = search needs
-
 shr-result : tie.Need-shr-result
 shr-result c = search needs
 
@@ -14,4 +11,4 @@ returns : tie.Need-returns
 returns c = (λ e. eqb-true _ _ e, λ b. eq-eqb _ _ b)
 
 pub has-spec : {M : Type 1} → statement M
-has-spec = tie.close (tie.spec cast-result shr-result returns)
+has-spec = tie.close (tie.spec shr-result returns)

@@ -7,10 +7,10 @@ use Rattle.rows.proofs.lowest.Tie as tie
 
 -- a count of zeros fits, from whichever end: a count from the wrong one is told below
 cast-result : tie.Need-cast-result
-cast-result c = omega (arith, trailing-le 32 (c .args .row), leading-le 32 (c .args .row))
+cast-result c = omega (arith, trailing-le 64 (c .args .row), leading-le 64 (c .args .row))
 
 returns : tie.Need-returns
-returns c = lowest-place 32 (c .args .row) (c .fits .row .fits) (c .pre)
+returns c = lowest-place 64 (c .args .row) (c .fits .row .fits) (c .pre)
 
 pub lowest-spec : {M : Type 1} → statement M
 lowest-spec = tie.close (tie.spec cast-result returns)

@@ -4,7 +4,7 @@ use Rattle.rows.proofs.ones.Statement.{statement}
 use Rattle.rows.proofs.ones.Tie as tie
 
 returns : tie.Need-returns
-returns c = ones-place 32 (c .args .row) (c .fits .row .fits)
+returns c = ones-place 64 (c .args .row) (c .fits .row .fits)
 
 pub ones-spec : {M : Type 1} → statement M
 ones-spec = tie.close (tie.spec returns)

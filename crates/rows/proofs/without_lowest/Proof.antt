@@ -8,7 +8,7 @@ sub-result : tie.Need-sub-result
 sub-result c = omega arith
 
 returns : tie.Need-returns
-returns c = without-lowest 32 (c .args .row)
+returns c = without-lowest 64 (c .args .row)
 
 pub without-lowest-spec : {M : Type 1} → statement M
 without-lowest-spec = tie.close (tie.spec sub-result returns)

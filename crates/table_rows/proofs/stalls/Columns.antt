@@ -15,16 +15,16 @@ use Rattle.table_rows.specs.stalls.AtCell.{Column}
 
 -- the rows before a have their column, the others are as they were
 pub record Columns (who b : ℕ) (old : List ℕ) (a : ℕ) (new : List ℕ) : Type 0 where
-  pub up : a ≤ 32
-  pub long : length new ≡ 32
+  pub up : a ≤ 64
+  pub long : length new ≡ 64
   pub done : (x : ℕ) → x < a → (j : ℕ) → Bit (getD new x 0) j ↔ (Bit (getD old x 0) j ⊎ Column who b x j)
   pub rest : (x : ℕ) → a ≤ x → getD new x 0 ≡ getD old x 0
 
 module _ (who b : ℕ) (old : List ℕ) where
-  pub columns-start : length old ≡ 32 → Columns who b old 0 old
+  pub columns-start : length old ≡ 64 → Columns who b old 0 old
   columns-start e = record { up = omega arith; long = e; done = λ x h. absurd (omega arith); rest = λ x h. refl }
 
-  pub columns-more : (a : ℕ) (new : List ℕ) (row : ℕ) → a < 32 → Columns who b old a new → ((j : ℕ) → Bit row j ↔ (Bit (getD new a 0) j ⊎ Column who b a j))
+  pub columns-more : (a : ℕ) (new : List ℕ) (row : ℕ) → a < 64 → Columns who b old a new → ((j : ℕ) → Bit row j ↔ (Bit (getD new a 0) j ⊎ Column who b a j))
       → Columns who b old (a + 1) (set new a row)
   columns-more a new row h c f = record {
     up = omega arith;
@@ -39,12 +39,12 @@ module _ (who b : ℕ) (old : List ℕ) where
           (rw (getD-set-same new a row 0 (omega (arith, c .long)), ← c .rest a (omega arith)) (f j))
       pick x j k (no d) = rw (getD-set-other new a x row 0 d) (c .done x (omega arith) j)
 
-  pub columns-end : (a : ℕ) (new : List ℕ) → who < 2 ^ 32 → 32 ≤ a → Columns who b old a new → Adds (Column who b) old new
+  pub columns-end : (a : ℕ) (new : List ℕ) → who < 2 ^ 64 → 64 ≤ a → Columns who b old a new → Adds (Column who b) old new
   columns-end a new h k c x j = pick (decLt x a)
     where
       pick : Dec (x < a) → Bit (getD new x 0) j ↔ (Bit (getD old x 0) j ⊎ Column who b x j)
       pick (yes q) = c .done x q j
-      pick (no g) = rw (c .rest x (omega arith)) (λ t. inl t, ⊎-elim (λ t. t) (λ t. absurd (omega (arith, bit-below 32 who x h (t .0)))))
+      pick (no g) = rw (c .rest x (omega arith)) (λ t. inl t, ⊎-elim (λ t. t) (λ t. absurd (omega (arith, bit-below 64 who x h (t .0)))))
 
 -- the row of a, if a is among who and if not
 pub column-yes : (who a b row new j : ℕ) → With row b new → Bit who a → Bit new j ↔ (Bit row j ⊎ Column who b a j)

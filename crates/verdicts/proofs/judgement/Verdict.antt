@@ -48,13 +48,13 @@ module _ (t : Tables) (ok : TablesOk t) (some : 0 < t .«message_count») (φ : 
     stalled = (q .stalled .0, rows-stalls t ok some stalls g (q .stalled .0) k .1 (q .stalled .1));
   }
 
-  pub steps-told : (waits steps : List ℕ) → WaitsOf (relationsOfTables t) waits → StepsRows waits stalls φ (t .«message_count») steps → StepsTold t φ steps
+  pub steps-told : (waits steps : List ℕ) → WaitsOf (relationsOfTables t) waits → StepsRows 64 waits stalls φ (t .«message_count») steps → StepsTold t φ steps
   steps-told waits steps w f m k h = (
     λ b. ⊎-elim (λ x. inl (w m k .0 x)) (λ q. inr (queues-there m k q)) (f .bits m k h .0 b),
     λ x. f .bits m k h .1 (⊎-elim (λ y. inl (w m k .1 y)) (λ q. inr (queues-back m k q)) x),
   )
 
-pub steps-within : (waits stalls : List ℕ) (φ : Mapping) (n : ℕ) (steps : List ℕ) → StepsRows waits stalls φ n steps → Within n waits steps
+pub steps-within : (waits stalls : List ℕ) (φ : Mapping) (n : ℕ) (steps : List ℕ) → StepsRows 64 waits stalls φ n steps → Within n waits steps
 steps-within waits stalls φ n steps f a b r = record { i-below = r .i-below; j-below = r .j-below; bit = f .bits a b (r .i-below) .1 (inl (r .bit)) }
 
 -- ---- the verdict
@@ -67,12 +67,12 @@ closed-map : (W W′ S S′ : Rel) → ((a b : ℕ) → W a b → W′ a b) → 
 closed-map W W′ S S′ f g [] c = c
 closed-map W W′ S S′ f g (a ∷ l) c = (begins-map W W′ f a (l ++ a ∷ []) (c .0), chain-map g a (l ++ a ∷ []) (c .1))
 
-module _ (p : Relations) (acc : Accepted p) (few : p .count ≤ 32) (φ : Mapping) (waits steps : List ℕ) (w : WaitsOf p waits)
+module _ (p : Relations) (acc : Accepted p) (few : p .count ≤ 64) (φ : Mapping) (waits steps : List ℕ) (w : WaitsOf p waits)
     (s : (m k : ℕ) → m < p .count → Bit (getD steps m 0) k ↔ Step p φ m k) where
   same-steps : (a b : ℕ) → Rows (p .count) steps a b ↔ Step p φ a b
   same-steps a b = (λ r. s a b (r .i-below) .0 (r .bit), λ x. let h = step-within p acc φ a b x in record { i-below = h .0; j-below = h .1; bit = s a b (h .0) .1 x })
 
-  module _ (new : List ℕ) (len : ℕ) (c : Cycle waits steps (p .count) (replicate 32 0) new len) (cycle : List Message) (is : cycle ≡ map asMessage new) where
+  module _ (new : List ℕ) (len : ℕ) (c : Cycle waits steps (p .count) (replicate 64 0) new len) (cycle : List Message) (is : cycle ≡ map asMessage new) where
     verdict : Fitting p φ (record { «cycle_length» = len; cycle = cycle; waits = waits }) ⊎ Unfitting p φ (record { «cycle_length» = len; cycle = cycle; waits = waits })
     verdict = go (ℕ-discrete len 0)
       where
@@ -97,9 +97,9 @@ module _ (p : Relations) (acc : Accepted p) (few : p .count ≤ 32) (φ : Mappin
             }
             )
 
-pub judged : (waits steps : List ℕ) (n : ℕ) → n ≤ 32 → (new : List ℕ) (len : ℕ) → Cycle waits steps n (replicate 32 0) new len → (cycle : List Message) → cycle ≡ map asMessage new
+pub judged : (waits steps : List ℕ) (n : ℕ) → n ≤ 64 → (new : List ℕ) (len : ℕ) → Cycle waits steps n (replicate 64 0) new len → (cycle : List Message) → cycle ≡ map asMessage new
     → JudgementOfRows waits steps n (record { «cycle_length» = len; cycle = cycle; waits = waits })
 judged waits steps n few new len c cycle is t φ ok some e w s = record {
-  verdict = verdict (relationsOfTables t) (relations-accepted t ok (omega arith)) (omega arith) φ waits steps w s new len (subst (λ (k : ℕ). Cycle waits steps k (replicate 32 0) new len) (sym e) c) cycle is;
+  verdict = verdict (relationsOfTables t) (relations-accepted t ok (omega arith)) (omega arith) φ waits steps w s new len (subst (λ (k : ℕ). Cycle waits steps k (replicate 64 0) new len) (sym e) c) cycle is;
   waits = w;
 }

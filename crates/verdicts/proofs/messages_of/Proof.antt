@@ -11,7 +11,7 @@ abbrev Inv-loop : tie.InvT-loop
 Inv-loop numbers messages₀ i₀ messages i = Turned asMessage numbers i messages
 
 abbrev μ-loop : tie.MeasureT-loop
-μ-loop numbers messages₀ i₀ messages i = 32 - i
+μ-loop numbers messages₀ i₀ messages i = 64 - i
 
 loop-holds : tie.Need-loop-holds Inv-loop μ-loop
 loop-holds c = turned-none asMessage (c .args .t1) _ (search needs)

@@ -11,7 +11,7 @@ abbrev Inv-loop : tie.InvT-loop
 Inv-loop heights networks₀ i₀ networks i = Turned asNetwork heights i networks
 
 abbrev μ-loop : tie.MeasureT-loop
-μ-loop heights networks₀ i₀ networks i = 32 - i
+μ-loop heights networks₀ i₀ networks i = 64 - i
 
 loop-holds : tie.Need-loop-holds Inv-loop μ-loop
 loop-holds c = turned-none asNetwork (c .args .t1) _ (search needs)

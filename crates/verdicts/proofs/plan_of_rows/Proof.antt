@@ -10,6 +10,9 @@ slice-aggregate-heights c = search needs
 slice-aggregate-heights-2 : tie.Need-slice-aggregate-heights-2
 slice-aggregate-heights-2 c = search needs
 
+slice-aggregate-heights-3 : tie.Need-slice-aggregate-heights-3
+slice-aggregate-heights-3 c = search needs
+
 heights-requires : tie.Need-heights-requires
 heights-requires c κs = search needs
 
@@ -22,9 +25,9 @@ ranked-plan-requires c κs = search needs
 returns : tie.Need-returns
 returns c =
     let m = c .before in
-    let h = m .before .before .before in
-    let s = h .before .before .before in
-    plan-three (s .args .t1) (s .args .n) (s .pre .1) (h .heights2 .last .1 .1 .0) (h .heights2 .result) (h .heights2 .ensures) (m .before .if1 .taken)
+    let h = c .before .before .before .before .before .heights2 in
+    let s = c .before .before .before .before .before .before .before .before .before in
+    plan-three (s .args .t1) (s .args .n) (s .pre .1) (h .last .1 .1 .1 .0) (h .result) (h .ensures .0) (m .before .if1 .taken)
     (m .networks-of .result) (m .networks-of .ensures) (c .ranked-plan .result) (c .ranked-plan .ensures)
 
 slice-aggregate-cycle : tie.Need-slice-aggregate-cycle
@@ -35,6 +38,9 @@ slice-aggregate-cycle-2 c = search needs
 
 slice-aggregate-cycle-3 : tie.Need-slice-aggregate-cycle-3
 slice-aggregate-cycle-3 c = search needs
+
+slice-aggregate-cycle-4 : tie.Need-slice-aggregate-cycle-4
+slice-aggregate-cycle-4 c = search needs
 
 cycle-requires : tie.Need-cycle-requires
 cycle-requires c κs = search needs
@@ -48,12 +54,11 @@ cycle-plan-requires c κs = search needs
 returns-2 : tie.Need-returns-2
 returns-2 c =
     let m = c .before in
-    let y = m .before .before in
-    let e = y .before .before .before .before in
-    let h = e .before .before in
-    let s = h .before .before .before in
-    plan-two (s .args .t1) (s .args .n) (s .pre .1) (h .heights2 .last .1 .1 .0) (h .heights2 .result) (h .heights2 .ensures) (e .if1 .left)
-    (y .cycle .last .1 .1 .1 .0) (y .cycle .result) (y .cycle .ensures) (m .messages-of .result) (m .messages-of .ensures) (c .cycle-plan .result) (c .cycle-plan .ensures)
+    let y = c .before .before .before .before .cycle in
+    let h = c .before .before .before .before .before .before .before .before .before .before .before .before .heights2 in
+    let s = c .before .before .before .before .before .before .before .before .before .before .before .before .before .before .before .before in
+    plan-two (s .args .t1) (s .args .n) (s .pre .1) (h .last .1 .1 .1 .0) (h .result) (h .ensures .0) (c .before .before .before .before .before .before .before .before .before .if1 .left)
+    (y .last .1 .1 .1 .1 .0) (y .result) (y .ensures .0) (m .messages-of .result) (m .messages-of .ensures) (c .cycle-plan .result) (c .cycle-plan .ensures)
 
 pub plan-of-rows-spec : {M : Type 1} → statement M
 plan-of-rows-spec =
@@ -61,6 +66,7 @@ plan-of-rows-spec =
     (tie.spec
     slice-aggregate-heights
     slice-aggregate-heights-2
+    slice-aggregate-heights-3
     heights-requires
     networks-of-requires
     ranked-plan-requires
@@ -68,6 +74,7 @@ plan-of-rows-spec =
     slice-aggregate-cycle
     slice-aggregate-cycle-2
     slice-aggregate-cycle-3
+    slice-aggregate-cycle-4
     cycle-requires
     messages-of-requires
     cycle-plan-requires

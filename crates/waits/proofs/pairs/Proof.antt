@@ -7,13 +7,13 @@ use Rattle.waits.proofs.pairs.Statement.{statement}
 use Rattle.waits.proofs.pairs.Tie as tie
 
 abbrev Inv-loop : tie.InvT-loop
-Inv-loop rows n sum₀ i₀ sum i = PairsInv n rows sum i
+Inv-loop rows n sum₀ i₀ sum i = PairsInv 64 n rows sum i
 
 abbrev μ-loop : tie.MeasureT-loop
 μ-loop rows n sum₀ i₀ sum i = n - i
 
 loop-holds : tie.Need-loop-holds Inv-loop μ-loop
-loop-holds c = pairs-start (c .before .args .n) (c .before .args .rows .now)
+loop-holds c = pairs-start 64 (c .before .args .n) (c .before .args .rows .now)
 
 mul-ones : tie.Need-mul-ones Inv-loop μ-loop
 mul-ones c = omega arith
@@ -25,10 +25,10 @@ ones-requires : tie.Need-ones-requires Inv-loop μ-loop
 ones-requires c κs = search needs
 
 cast-sum : tie.Need-cast-sum Inv-loop μ-loop
-cast-sum c = omega (arith, ones-small _ _ (c .ones .ensures))
+cast-sum c = omega (arith, ones-small 64 _ _ (c .ones .ensures))
 
 add-sum : tie.Need-add-sum Inv-loop μ-loop
-add-sum c = omega (arith, ones-small _ _ (c .ones .ensures), c .before .before .before .loop .inv .small)
+add-sum c = omega (arith, ones-small 64 _ _ (c .ones .ensures), c .before .before .before .loop .inv .small)
 
 add-i : tie.Need-add-i Inv-loop μ-loop
 add-i c = omega arith
@@ -40,13 +40,13 @@ loop-again : tie.Need-loop-again Inv-loop μ-loop
 loop-again c =
     let l = c .before .before .before .loop in
     let a = c .before .before .before .before .before .args in
-    pairs-step (a .n) (a .rows .now) (l .sum) (l .i) (c .ones .result) (c .before .before .before .before .before .pre .0) (c .before .before .before .before .before .pre .2) (omega arith) (c .ones .ensures) (l .inv)
+    pairs-step 64 (a .n) (a .rows .now) (l .sum) (l .i) (c .ones .result) (c .before .before .before .before .before .pre .0) (c .before .before .before .before .before .pre .2) (omega arith) (c .ones .ensures) (l .inv)
 
 returns : tie.Need-returns Inv-loop μ-loop
 returns c =
     let l = c .before .loop in
     let a = c .before .before .before .args in
-    pairs-end (a .n) (a .rows .now) (l .sum) (l .i) (omega arith) (l .inv)
+    pairs-end 64 (a .n) (a .rows .now) (l .sum) (l .i) (omega arith) (l .inv)
 
 pub pairs-spec : {M : Type 1} → statement M
 pairs-spec =

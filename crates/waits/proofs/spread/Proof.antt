@@ -13,7 +13,7 @@ abbrev μ-loop : tie.MeasureT-loop
 μ-loop row set waits₀ left₀ waits left = left
 
 loop-holds : tie.Need-loop-holds Inv-loop μ-loop
-loop-holds c = let a = c .before .args in spread-start (a .row) (a .set) (a .waits .now) (c .before .fits .set .fits)
+loop-holds c = let a = c .before .args in spread-start (a .row) (a .set) (a .waits .now)
 
 lowest-requires : tie.Need-lowest-requires Inv-loop μ-loop
 lowest-requires c κs = pos-of-ne-zero (c .loop-test .taken)
@@ -22,13 +22,13 @@ mul-join : tie.Need-mul-join Inv-loop μ-loop
 mul-join c =
     let l = c .before .before .loop in
     let s = c .before .before .before .before in
-    omega (arith, spread-below (s .args .row) (s .args .set) (s .args .waits .now) (l .waits) (l .left) (c .lowest .result) (s .pre) (c .lowest .ensures) (l .inv))
+    omega (arith, spread-below (s .args .row) (s .args .set) (s .args .waits .now) (l .waits) (l .left) (c .lowest .result) (s .pre) (c .lowest .ensures .bit) (l .inv))
 
 slice-read-join : tie.Need-slice-read-join Inv-loop μ-loop
 slice-read-join c =
     let l = c .before .before .before .loop in
     let s = c .before .before .before .before .before in
-    spread-below (s .args .row) (s .args .set) (s .args .waits .now) (l .waits) (l .left) (c .before .lowest .result) (s .pre) (c .before .lowest .ensures) (l .inv)
+    spread-below (s .args .row) (s .args .set) (s .args .waits .now) (l .waits) (l .left) (c .before .lowest .result) (s .pre) (c .before .lowest .ensures .bit) (l .inv)
 
 join-requires : tie.Need-join-requires Inv-loop μ-loop
 join-requires c κs = search needs
@@ -37,13 +37,13 @@ mul-waits : tie.Need-mul-waits Inv-loop μ-loop
 mul-waits c =
     let l = c .before .before .before .before .loop in
     let s = c .before .before .before .before .before .before in
-    omega (arith, spread-below (s .args .row) (s .args .set) (s .args .waits .now) (l .waits) (l .left) (c .before .before .lowest .result) (s .pre) (c .before .before .lowest .ensures) (l .inv))
+    omega (arith, spread-below (s .args .row) (s .args .set) (s .args .waits .now) (l .waits) (l .left) (c .before .before .lowest .result) (s .pre) (c .before .before .lowest .ensures .bit) (l .inv))
 
 slice-write-waits : tie.Need-slice-write-waits Inv-loop μ-loop
 slice-write-waits c =
     let l = c .before .before .before .before .loop in
     let s = c .before .before .before .before .before .before in
-    spread-below (s .args .row) (s .args .set) (s .args .waits .now) (l .waits) (l .left) (c .before .before .lowest .result) (s .pre) (c .before .before .lowest .ensures) (l .inv)
+    spread-below (s .args .row) (s .args .set) (s .args .waits .now) (l .waits) (l .left) (c .before .before .lowest .result) (s .pre) (c .before .before .lowest .ensures .bit) (l .inv)
 
 without-lowest-requires : tie.Need-without-lowest-requires Inv-loop μ-loop
 without-lowest-requires c κs = pos-of-ne-zero (c .before .before .before .loop-test .taken)
@@ -55,7 +55,7 @@ loop-again : tie.Need-loop-again Inv-loop μ-loop
 loop-again c =
     let l = c .before .before .before .before .before .loop in
     let s = c .before .before .before .before .before .before .before in
-    spread-step (s .args .row) (s .args .set) (s .args .waits .now) (l .waits) (l .left) (c .before .before .before .lowest .result) (c .before .join .result) (c .without-lowest .result) (s .pre) (c .before .before .before .lowest .ensures) (c .before .join .ensures) (c .without-lowest .ensures .cleared (c .before .before .before .lowest .result) (c .before .before .before .lowest .ensures)) (l .inv)
+    spread-step (s .args .row) (s .args .set) (s .args .waits .now) (l .waits) (l .left) (c .before .before .before .lowest .result) (c .before .join .result) (c .without-lowest .result) (s .pre) (c .before .before .before .lowest .ensures .bit) (c .before .join .ensures) (c .without-lowest .ensures .cleared (c .before .before .before .lowest .result) (c .before .before .before .lowest .ensures)) (l .inv)
 
 same-length : tie.Need-same-length Inv-loop μ-loop
 same-length c = c .before .loop .inv .long

@@ -1,5 +1,5 @@
 -- Rule 5 in rows: what the loops over the messages keep.
-use Prim.Native.Nat.{ℕ, _+_, _<_, _≤_, _^_}
+use Prim.Native.Nat.{ℕ, _+_, _<_, _≤_}
 use mathlib.Core.Path.{_≡_, sym, subst, ap, _∙_}
 use mathlib.Core.Bool.{Bool, true, false}
 use mathlib.Core.Logic.{_⊎_, inl, inr, ⊎-elim, _≢_, _↔_}
@@ -17,8 +17,8 @@ use Rattle.rows.proofs.Together.{Together}
 use Rattle.waits.specs.steps.Steps.{StepsRows, StalledRow, Behind, WithBehind, QueuesRow}
 
 -- all rows are taken in
-pub stalled-end : (stalls : List ℕ) (n all a : ℕ) → n ≤ a → Together 32 stalls n all a → StalledRow stalls n all
-stalled-end stalls n all a h inv k = (
+pub stalled-end : (w : ℕ) (stalls : List ℕ) (n all a : ℕ) → n ≤ a → Together w stalls n all a → StalledRow stalls n all
+stalled-end w stalls n all a h inv k = (
   λ b. let t = inv .bits k .0 b in (t .0, omega (arith, t .1, inv .at-most), t .2),
   λ t. inv .bits k .1 (t .0, omega (arith, t .1), t .2),
 )
@@ -47,15 +47,13 @@ module _ (φ : Mapping) (stalled m : ℕ) where
 
   -- the bits of the row are those below k behind which m queues
   pub record Queueing (k row : ℕ) : Type 0 where
-    pub small : row < 2 ^ 32
     pub bits : (j : ℕ) → Bit row j ↔ ((j < k) × Behind φ stalled m j)
 
   pub queueing-none : Queueing 0 0
-  queueing-none = record { small = omega arith; bits = λ j. (λ b. absurd (bit-zero j b), λ t. absurd (omega (arith, t .0))) }
+  queueing-none = record { bits = λ j. (λ b. absurd (bit-zero j b), λ t. absurd (omega (arith, t .0))) }
 
-  pub queueing-more : (k row next : ℕ) → next < 2 ^ 32 → WithBehind φ stalled m k row next → Queueing k row → Queueing (k + 1) next
-  queueing-more k row next small w inv = record {
-    small = small;
+  pub queueing-more : (k row next : ℕ) → WithBehind φ stalled m k row next → Queueing k row → Queueing (k + 1) next
+  queueing-more k row next w inv = record {
     bits = λ j. (
       λ b. ⊎-elim (λ x. let t = inv .bits j .0 x in (omega (arith, t .0), t .1)) (λ x. (omega (arith, x .0), subst (Behind φ stalled m) (sym (x .0)) (x .1))) (w j .0 b),
       λ t. w j .1 (pick j t (ℕ-discrete j k)),
@@ -79,9 +77,9 @@ steps-row waits φ stalled n m q r f j k = (
   λ x. j .bits k .1 (⊎-elim inl (λ y. inr (f k .1 y)) x),
 )
 
-pub steps-end : (waits stalls : List ℕ) (φ : Mapping) (stalled n : ℕ) (rows : List ℕ) (i : ℕ) → n ≤ i → StalledRow stalls n stalled
-    → FillingRows (IsSteps waits φ stalled n) n (replicate 32 0) rows i → StepsRows waits stalls φ n rows
-steps-end waits stalls φ stalled n rows i h s f = record { bits = bits; kept = fill-kept (IsSteps waits φ stalled n) n (replicate 32 0) rows i h f }
+pub steps-end : (most : ℕ) (waits stalls : List ℕ) (φ : Mapping) (stalled n : ℕ) (rows : List ℕ) (i : ℕ) → n ≤ i → StalledRow stalls n stalled
+    → FillingRows (IsSteps waits φ stalled n) n (replicate most 0) rows i → StepsRows most waits stalls φ n rows
+steps-end most waits stalls φ stalled n rows i h s f = record { bits = bits; kept = fill-kept (IsSteps waits φ stalled n) n (replicate most 0) rows i h f }
   where
     queues : (m k : ℕ) → m < n → (k < n) × Behind φ stalled m k → Queues (ofRows n [] stalls) φ m k
     queues m k l x =
@@ -93,5 +91,5 @@ steps-end waits stalls φ stalled n rows i h s f = record { bits = bits; kept = 
 
     bits : (m k : ℕ) → m < n → Bit (getD rows m 0) k ↔ (Bit (getD waits m 0) k ⊎ Queues (ofRows n [] stalls) φ m k)
     bits m k l =
-        let t = fill-each (IsSteps waits φ stalled n) n (replicate 32 0) rows i h f m l k in
+        let t = fill-each (IsSteps waits φ stalled n) n (replicate most 0) rows i h f m l k in
         (λ b. ⊎-elim inl (λ x. inr (queues m k l x)) (t .0 b), λ x. t .1 (⊎-elim inl (λ q. inr (behind m k q)) x))

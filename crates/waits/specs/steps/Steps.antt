@@ -14,10 +14,10 @@ abbrev pub mappingOf : List Network → Mapping
 mappingOf networks m = getD networks m (record { 0 = 0 }) .0
 
 -- Rules 4 and 5: bit k of row m says that m waits for k or queues behind k. Rule 5 asks for the rows of stalls only.
--- These are the first n of 32 rows, and the others are 0.
-pub record StepsRows (waits stalls : List ℕ) (φ : Mapping) (n : ℕ) (rows : List ℕ) : Type 0 where
+-- These are the first n of so many rows, and the others are 0.
+pub record StepsRows (most : ℕ) (waits stalls : List ℕ) (φ : Mapping) (n : ℕ) (rows : List ℕ) : Type 0 where
   pub bits : (m k : MessageNo) → m < n → Bit (getD rows m 0) k ↔ (Bit (getD waits m 0) k ⊎ Queues (ofRows n [] stalls) φ m k)
-  pub kept : KeptFrom n (replicate 32 0) rows
+  pub kept : KeptFrom n (replicate most 0) rows
 
 -- ---- what the loops gather
 

@@ -6,7 +6,7 @@ use mathlib.Core.List.{List}
 use native.Mathlib.Decide.{ℕ-discrete}
 use lib.ListN.{getD}
 use Rattle.rows.specs.Rows.{Bit}
-use Rattle.rows.specs.Row.{Without, Join, Meet, AllBelow, Lowest}
+use Rattle.rows.specs.Row.{Without, Join, Meet, AllBelow}
 use Rattle.rows.proofs.Bits.{bit-zero}
 use Rattle.walks.specs.Sets.{After}
 
@@ -18,9 +18,9 @@ pub record AfterInv (s : List ℕ) (set r left : ℕ) : Type 0 where
 pub after-start : (s : List ℕ) (set : ℕ) → AfterInv s set 0 set
 after-start s set = record { among = λ z b. b; bits = λ y. (λ b. absurd (bit-zero y b), λ t. absurd (t .2 (t .1))) }
 
-module _ (s : List ℕ) (set r left first : ℕ) (low : Lowest 32 left first) (inv : AfterInv s set r left) where
+module _ (s : List ℕ) (set r left first : ℕ) (low : Bit left first) (inv : AfterInv s set r left) where
   pub first-in : Bit set first
-  first-in = inv .among first (low .bit)
+  first-in = inv .among first low
 
   pub after-step : (more next : ℕ) → Join r (getD s first 0) more → Without left first next → AfterInv s set more next
   after-step more next joined cleared = record {

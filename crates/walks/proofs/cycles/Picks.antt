@@ -64,7 +64,7 @@ module _ (w s : List ℕ) (n len x : ℕ) (hx : x < n) where
       meet-none row l both meet e (t .0) (inv .row-is (t .0) small .1 (t .1)) (layer (t .0) .1 (t .2))
 
   -- the lowest of them is chosen
-  module _ (old out : List ℕ) (row i l both chosen : ℕ) (hl : len ≤ length old) (hi : i < len) (layer : Layer s n x (len - i) l) (meet : Meet row l both) (low : Lowest 32 both chosen) (inv : PicksInv w s n len x old out row i) where
+  module _ {wide : ℕ} (old out : List ℕ) (row i l both chosen : ℕ) (hl : len ≤ length old) (hi : i < len) (layer : Layer s n x (len - i) l) (meet : Meet row l both) (low : Lowest wide both chosen) (inv : PicksInv w s n len x old out row i) where
     pub chosen-is : (chosen < n) × StepAt (W w s n) (S w s n) (inv .prev) (getD out (inv .prev) 0) chosen × Exactly (S w s n) (len - i) chosen x
     chosen-is =
         let u = meet .bits chosen .0 (low .bit) in

@@ -1,5 +1,5 @@
 -- Heights: what the loops keep, and that the table of sets gives the heights.
-use Prim.Native.Nat.{ℕ, zero, suc, _+_, _-_, _<_, _≤_, _^_}
+use Prim.Native.Nat.{ℕ, zero, suc, _+_, _-_, _<_, _≤_}
 use mathlib.Core.Path.{_≡_, refl, sym, subst, ap, _∙_}
 use mathlib.Core.Logic.{_⊎_, inl, inr, _↔_}
 use mathlib.Core.List.{List, [], _∷_, _++_}
@@ -17,9 +17,11 @@ use Rattle.rules.proofs.Cycle.{distinct-or, Repeat, chain-left, chain-right}
 use Rattle.rules.proofs.Heights.{chain-in}
 use Rattle.rows.specs.Rows.{Bit, Rows}
 use Rattle.rows.specs.Row.{AllBelow}
+use Rattle.rows.specs.Closure.{KeptFrom}
 use Rattle.rows.proofs.Bits.{bit-zero, some-bit}
+use Rattle.rows.proofs.FillingRows.{kept-all, kept-store}
 use Rattle.walks.specs.Walks.{Heights}
-use Rattle.walks.specs.Sets.{Into, StepsFrom, Levels, Rounds, Sinks, LastSet, Written}
+use Rattle.walks.specs.Sets.{Into, StepsFrom, Levels, Rounds, LastSet, Written}
 
 -- ---- chains of k steps
 
@@ -87,25 +89,21 @@ module _ (w : List ℕ) (n : ℕ) where
   abbrev Are : ℕ → ℕ → Type 0
   Are row k = (m : ℕ) → Bit row m ↔ Can k m
 
-  pub record RoundsInv (sets : List ℕ) (now k : ℕ) : Type 0 where
+  pub record RoundsInv (old sets : List ℕ) (now k : ℕ) : Type 0 where
     pub at-most : k ≤ n
-    pub room : length sets ≡ 33
     pub now-is : Are now k
-    pub sets-are : (j : ℕ) → j ≤ k → Are (getD sets j 0) j
+    pub sets-are : (j : ℕ) → j < k → Are (getD sets j 0) j
     pub some : (m : ℕ) × Can k m
+    pub kept : KeptFrom n old sets
 
-  pub rounds-start : (sets : List ℕ) (v : ℕ) → 1 ≤ n → length sets ≡ 33 → AllBelow n v → RoundsInv (set sets 0 v) v 0
-  rounds-start sets v h q f = record {
+  pub rounds-start : (sets : List ℕ) (v : ℕ) → 1 ≤ n → AllBelow n v → RoundsInv sets sets v 0
+  rounds-start sets v h f = record {
     at-most = omega arith;
-    room = length-set sets 0 v ∙ q;
     now-is = f .bits;
-    sets-are = first;
+    sets-are = λ j q. absurd (omega arith);
     some = (0, omega arith);
+    kept = kept-all n sets;
   }
-    where
-      first : (j : ℕ) → j ≤ 0 → Are (getD (set sets 0 v) j 0) j
-      first zero k = rw (getD-set-same sets 0 v 0 (omega arith)) (f .bits)
-      first (suc j) k = absurd (omega arith)
 
   next-are : (now next k : ℕ) → Are now k → Into w n now next → Are next (suc k)
   next-are now next k f i m = (
@@ -120,36 +118,37 @@ module _ (w : List ℕ) (n : ℕ) where
   cyclic-rounds : (sets : List ℕ) → (a : ℕ) × Plus (Rows n w) a a → Rounds w n sets 0
   cyclic-rounds sets t = record { cyclic = λ _. t; levels = λ d. absurd (d refl) }
 
-  module _ (sets : List ℕ) (now k next : ℕ) (hn : n ≤ 32) (hk : k < n) (inv : RoundsInv sets now k) (i : Into w n now next) where
+  module _ (old sets : List ℕ) (now k next : ℕ) (room : n ≤ length old) (hk : k < n) (inv : RoundsInv old sets now k) (i : Into w n now next) where
+    -- the set of round k is stored
+    abbrev sets′ : List ℕ
+    sets′ = set sets k now
+
+    stored : (j : ℕ) → j < k + 1 → Are (getD sets′ j 0) j
+    stored j q = go (ℕ-discrete j k)
+      where
+        go : Dec (j ≡ k) → Are (getD sets′ j 0) j
+        go (yes e) = rw (e, getD-set-same sets k now 0 (omega (arith, inv .kept .long))) (inv .now-is)
+        go (no d) = rw (getD-set-other sets k j now 0 d) (inv .sets-are j (omega arith))
+
+    pub rounds-kept : KeptFrom n old (set sets k now)
+    rounds-kept = kept-store n old sets k now hk (inv .kept)
+
     -- the round lost nobody
-    pub rounds-stuck : next ≡ now → Rounds w n sets 0
+    pub rounds-stuck : next ≡ now → Rounds w n (set sets k now) 0
     rounds-stuck e =
         let stay : (m : ℕ) → Can k m → Can (suc k) m = λ m s. next-are now next k (inv .now-is) i m .0 (rw e (inv .now-is m .1 s)) in
         let f : n - k + k ≡ n = omega arith in
         let t = inv .some in
-        cyclic-rounds sets (all-cycle (t .0) (subst (λ (j : ℕ). Can j (t .0)) f (steps-stay (Rows n w) n (rows-within n w) k stay (n - k) (t .0) (t .1))))
-
-    abbrev sets′ : List ℕ
-    sets′ = set sets (k + 1) next
-
-    fits : k + 1 < length sets
-    fits = omega (arith, inv .room)
-
-    kept : (j : ℕ) → j ≤ k + 1 → Are (getD sets′ j 0) j
-    kept j q = go (ℕ-discrete j (k + 1))
-      where
-        go : Dec (j ≡ k + 1) → Are (getD sets′ j 0) j
-        go (yes e) = rw (e, getD-set-same sets (k + 1) next 0 fits, add-one k) (next-are now next k (inv .now-is) i)
-        go (no d) = rw (getD-set-other sets (k + 1) j next 0 d) (inv .sets-are j (omega arith))
+        cyclic-rounds sets′ (all-cycle (t .0) (subst (λ (j : ℕ). Can j (t .0)) f (steps-stay (Rows n w) n (rows-within n w) k stay (n - k) (t .0) (t .1))))
 
     -- nobody is left
-    pub rounds-end : next ≡ 0 → Rounds w n sets′ (k + 1)
+    pub rounds-end : next ≡ 0 → Rounds w n (set sets k now) (k + 1)
     rounds-end e = record {
       cyclic = λ z. absurd (omega (arith, z));
       levels = λ _. record {
         fits = omega arith;
-        sets-are = kept;
-        empty = getD-set-same sets (k + 1) next 0 fits ∙ e;
+        sets-are = stored;
+        none = λ m s. bit-zero m (subst (λ (row : ℕ). Bit row m) e (next-are now next k (inv .now-is) i m .1 (rw (add-one k) at s)));
         some = λ j q. rw (same j q) (inv .some);
       };
     }
@@ -157,108 +156,103 @@ module _ (w : List ℕ) (n : ℕ) where
         same : (j : ℕ) → k + 1 ≡ suc j → j ≡ k
         same j q = omega (arith, q)
 
-    pub rounds-step : next < 2 ^ 32 → ¬ (next ≡ 0) → RoundsInv sets′ next (k + 1)
-    rounds-step small d = let b = some-bit 32 next small d in record {
+    pub rounds-step : ¬ (next ≡ 0) → RoundsInv old (set sets k now) next (k + 1)
+    rounds-step d = let b = some-bit next d in record {
       at-most = omega arith;
-      room = length-set sets (k + 1) next ∙ inv .room;
       now-is = rw (add-one k) (next-are now next k (inv .now-is) i);
-      sets-are = kept;
+      sets-are = stored;
       some = (b .0, rw (add-one k) (next-are now next k (inv .now-is) i (b .0) .0 (b .1)));
+      kept = rounds-kept;
     }
 
   -- somebody is left at round n
-  pub rounds-full : (sets : List ℕ) (now k : ℕ) → n ≤ k → RoundsInv sets now k → Rounds w n sets 0
-  rounds-full sets now k h inv =
+  pub rounds-full : (old sets : List ℕ) (now k : ℕ) → n ≤ k → RoundsInv old sets now k → Rounds w n sets 0
+  rounds-full old sets now k h inv =
       let e : k ≡ n = omega (arith, inv .at-most) in
       let t = inv .some in
       cyclic-rounds sets (all-cycle (t .0) (subst (λ (j : ℕ). Can j (t .0)) e (t .1)))
 
 -- ---- the loop of `last`
 
-pub record LastInv (sets : List ℕ) (m h : ℕ) : Type 0 where
-  pub small : h < 32
+pub record LastInv (sets : List ℕ) (count m h : ℕ) : Type 0 where
+  pub small : h < count
   pub in-it : (j : ℕ) → j ≤ h → Bit (getD sets j 0) m
 
-module _ (sets : List ℕ) (m : ℕ) where
-  pub last-start : Bit (getD sets 0 0) m → LastInv sets m 0
-  last-start b = record { small = omega arith; in-it = λ j q. rw (none j q) b }
+module _ (sets : List ℕ) (count m : ℕ) where
+  pub last-start : 1 ≤ count → Bit (getD sets 0 0) m → LastInv sets count m 0
+  last-start h b = record { small = omega arith; in-it = λ j q. rw (none j q) b }
     where
       none : (j : ℕ) → j ≤ 0 → j ≡ 0
       none j q = omega arith
 
-  pub last-step : (h : ℕ) → Sinks sets → Bit (getD sets (h + 1) 0) m → LastInv sets m h → LastInv sets m (h + 1)
-  last-step h sinks e inv = record { small = go (decLt (h + 1) 32); in-it = more }
+  pub last-step : (h : ℕ) → h + 1 < count → Bit (getD sets (h + 1) 0) m → LastInv sets count m h → LastInv sets count m (h + 1)
+  last-step h l e inv = record { small = l; in-it = λ j q. pick j q (ℕ-discrete j (h + 1)) }
     where
-      more : (j : ℕ) → j ≤ h + 1 → Bit (getD sets j 0) m
-      more j q = pick (ℕ-discrete j (h + 1))
-        where
-          pick : Dec (j ≡ h + 1) → Bit (getD sets j 0) m
-          pick (yes f) = rw f e
-          pick (no d) = inv .in-it j (omega arith)
+      pick : (j : ℕ) → j ≤ h + 1 → Dec (j ≡ h + 1) → Bit (getD sets j 0) m
+      pick j q (yes f) = rw f e
+      pick j q (no d) = inv .in-it j (omega arith)
 
-      go : Dec (h + 1 < 32) → h + 1 < 32
-      go (yes l) = l
-      go (no l) = absurd (bit-zero m (subst (λ (r : ℕ). Bit r m) (sinks .2) (more (sinks .0) (omega (arith, sinks .1)))))
+  -- it is not in the next set
+  pub last-found : (h : ℕ) → ¬ Bit (getD sets (h + 1) 0) m → LastInv sets count m h → LastSet sets count m h
+  last-found h d inv = record { small = inv .small; in-it = inv .in-it; not-next = λ _. d }
 
-  pub last-end : (h : ℕ) → ¬ Bit (getD sets (h + 1) 0) m → LastInv sets m h → LastSet sets m h
-  last-end h d inv = record { small = inv .small; in-it = inv .in-it; not-next = d }
+  -- there is no next set
+  pub last-end : (h : ℕ) → count ≤ h + 1 → LastInv sets count m h → LastSet sets count m h
+  last-end h d inv = record { small = inv .small; in-it = inv .in-it; not-next = λ l. absurd (omega (arith, d, l)) }
 
 -- ---- the loop of `write`
 
-pub record WriteInv (sets : List ℕ) (n : ℕ) (old new : List ℕ) (m : ℕ) : Type 0 where
+pub record WriteInv (sets : List ℕ) (count n : ℕ) (old new : List ℕ) (m : ℕ) : Type 0 where
   pub at-most : m ≤ n
   pub same-length : length new ≡ length old
-  pub done : (j : ℕ) → j < m → LastSet sets j (getD new j 0)
+  pub done : (j : ℕ) → j < m → LastSet sets count j (getD new j 0)
   pub rest : drop n new ≡ drop n old
 
-pub write-start : (sets : List ℕ) (n : ℕ) (old : List ℕ) → WriteInv sets n old old 0
-write-start sets n old = record { at-most = omega arith; same-length = refl; done = λ j h. absurd (omega arith); rest = refl }
+pub write-start : (sets : List ℕ) (count n : ℕ) (old : List ℕ) → WriteInv sets count n old old 0
+write-start sets count n old = record { at-most = omega arith; same-length = refl; done = λ j h. absurd (omega arith); rest = refl }
 
-pub write-step : (sets : List ℕ) (n : ℕ) (old new : List ℕ) (m h : ℕ) → n ≤ length old → m < n → LastSet sets m h → WriteInv sets n old new m → WriteInv sets n old (set new m h) (m + 1)
-write-step sets n old new m h hn hm l inv = record {
+pub write-step : (sets : List ℕ) (count n : ℕ) (old new : List ℕ) (m h : ℕ) → n ≤ length old → m < n → LastSet sets count m h → WriteInv sets count n old new m → WriteInv sets count n old (set new m h) (m + 1)
+write-step sets count n old new m h hn hm l inv = record {
   at-most = omega arith;
   same-length = length-set new m h ∙ inv .same-length;
   done = λ j q. go j q (ℕ-discrete j m);
   rest = drop-set-lt n new m h hm ∙ inv .rest;
 }
   where
-    go : (j : ℕ) → j < m + 1 → Dec (j ≡ m) → LastSet sets j (getD (set new m h) j 0)
+    go : (j : ℕ) → j < m + 1 → Dec (j ≡ m) → LastSet sets count j (getD (set new m h) j 0)
     go j q (yes e) = rw (e, getD-set-same new m h 0 (omega (arith, inv .same-length))) l
     go j q (no d) = rw (getD-set-other new m j h 0 d) (inv .done j (omega arith))
 
-pub write-end : (sets : List ℕ) (n : ℕ) (old new : List ℕ) (m : ℕ) → n ≤ m → WriteInv sets n old new m → Written sets n old new
-write-end sets n old new m h inv = record { last = λ j q. inv .done j (omega arith); rest = inv .rest }
+pub write-end : (sets : List ℕ) (count n : ℕ) (old new : List ℕ) (m : ℕ) → n ≤ m → WriteInv sets count n old new m → Written sets count n old new
+write-end sets count n old new m h inv = record { last = λ j q. inv .done j (omega arith); rest = inv .rest }
 
 -- ---- the heights
 
 module _ (w : List ℕ) (n : ℕ) (sets : List ℕ) (r : ℕ) (levels : Levels w n sets r) where
-  pub in-first : (m : ℕ) → m < n → Bit (getD sets 0 0) m
-  in-first m h = levels .sets-are 0 (omega arith) m .1 h
+  pub in-first : 1 ≤ r → (m : ℕ) → m < n → Bit (getD sets 0 0) m
+  in-first h m k = levels .sets-are 0 (omega arith) m .1 k
 
-  pub sinks : n ≤ 32 → Sinks sets
-  sinks h = (r, omega (arith, levels .fits), levels .empty)
-
-  module _ (m h : ℕ) (hm : m < n) (l : LastSet sets m h) where
+  module _ (m h : ℕ) (hm : m < n) (l : LastSet sets r m h) where
     last-below : h < r
-    last-below = go (decLt h r)
-      where
-        go : Dec (h < r) → h < r
-        go (yes q) = q
-        go (no q) = absurd (bit-zero m (subst (λ (row : ℕ). Bit row m) (levels .empty) (l .in-it r (omega arith))))
+    last-below = l .small
 
     last-most : (k : ℕ) → StepsFrom (Rows n w) n k m → k ≤ h
     last-most k s = go (decLe k h)
       where
         go : Dec (k ≤ h) → k ≤ h
         go (yes q) = q
-        go (no q) = absurd (l .not-next (levels .sets-are (h + 1) (omega (arith, last-below)) m .1 (steps-less (Rows n w) n (rows-within n w) (h + 1) k m (omega arith) s)))
+        go (no q) = later (steps-less (Rows n w) n (rows-within n w) (h + 1) k m (omega arith) s) (decLt (h + 1) r)
+          where
+            later : StepsFrom (Rows n w) n (h + 1) m → Dec (h + 1 < r) → k ≤ h
+            later c (yes o) = absurd (l .not-next o (levels .sets-are (h + 1) o m .1 c))
+            later c (no o) = absurd (levels .none m (subst (λ (i : ℕ). StepsFrom (Rows n w) n i m) (let e : h + 1 ≡ r = omega (arith, last-below) in e) c))
 
     last-height : Height (Rows n w) m h
     last-height =
         let c = steps-chain (Rows n w) n (rows-within n w) h m (levels .sets-are h (omega (arith, last-below)) m .0 (l .in-it h (omega arith))) in
         record { rest = c .0; chain = c .1; steps = c .2; longest = λ k q. last-most (length k) (chain-steps (Rows n w) n (rows-within n w) m k hm q) }
 
-pub heights-some : (w : List ℕ) (n : ℕ) (sets old new : List ℕ) (r : ℕ) → ¬ (r ≡ 0) → length new ≡ length old → Levels w n sets r → Written sets n old new → Heights w n old new r
+pub heights-some : (w : List ℕ) (n : ℕ) (sets old new : List ℕ) (r : ℕ) → ¬ (r ≡ 0) → length new ≡ length old → Levels w n sets r → Written sets r n old new → Heights w n old new r
 heights-some w n sets old new r d e levels wr = record {
   long = e;
   cyclic = λ z. absurd (d z);

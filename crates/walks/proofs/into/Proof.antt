@@ -39,9 +39,8 @@ loop-again c =
     let a = c .before .before .before .before .before .before .args in
     let l = c .before .before .before .before .loop in
     let m = c .before .meet in
-    let h : m .result < 2 ^ 32 = omega (arith, m .ok) in
     ⊎-elim
-    (λ w. rw (w .2) (into-yes (a .s .now) (a .n) (a .set) (l .r) (l .y) (omega arith) (l .inv) (m .result) (w .1 .result) h (m .ensures) (w .0 .taken) (w .1 .ensures)))
+    (λ w. rw (w .2) (into-yes (a .s .now) (a .n) (a .set) (l .r) (l .y) (omega arith) (l .inv) (m .result) (w .1 .result) (m .ensures) (w .0 .taken) (w .1 .ensures)))
     (λ w. rw (w .1) (into-no (a .s .now) (a .n) (a .set) (l .r) (l .y) (omega arith) (l .inv) (m .result) (m .ensures) (w .0 .left)))
     (c .if1 .came)
 

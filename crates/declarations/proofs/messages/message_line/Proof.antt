@@ -47,13 +47,13 @@ no-message-requires-4 : tie.Need-no-message-requires-4
 no-message-requires-4 c κs = search needs
 
 returns-4 : tie.Need-returns-4
-returns-4 c = message-refused _ _ _ _ (c .before .before .before .before .before .before .before .before .before .before .before .pre .1) _ 9 (never 8) (four-full _ _ _ _ (message-is _ _ (sym (c .before .before .before .before .before .before .before .kind .given .1) ∙ c .before .before .before .before .before .before .before .before .before .message-shape .ensures) .0) (sym (c .before .before .before .before .before .name-fits .ensures) ∙ not-false (c .before .before .before .before .before .name-fits .result) (c .before .before .before .before .if1 .left)) (sym (c .before .before .before .message-declared .ensures) ∙ c .before .before .if2 .left) (le-leb 32 (c .before .before .before .before .before .before .before .before .before .before .before .args .count) (omega arith))) (c .no-message4 .ensures)
+returns-4 c = message-refused _ _ _ _ (c .before .before .before .before .before .before .before .before .before .before .before .pre .1) _ 9 (never 8) (four-full _ _ _ _ (message-is _ _ (sym (c .before .before .before .before .before .before .before .kind .given .1) ∙ c .before .before .before .before .before .before .before .before .before .message-shape .ensures) .0) (sym (c .before .before .before .before .before .name-fits .ensures) ∙ not-false (c .before .before .before .before .before .name-fits .result) (c .before .before .before .before .if1 .left)) (sym (c .before .before .before .message-declared .ensures) ∙ c .before .before .if2 .left) (le-leb 64 (c .before .before .before .before .before .before .before .before .before .before .before .args .count) (omega arith))) (c .no-message4 .ensures)
 
 name-at-requires : tie.Need-name-at-requires
 name-at-requires c κs = let h = message-count _ _ (c .before .before .before .before .before .before .before .before .before .before .pre .0) (message-is _ _ (sym (c .before .before .before .before .before .before .kind .given .1) ∙ c .before .before .before .before .before .before .before .before .message-shape .ensures) .0) in (c .before .before .before .before .before .before .before .before .before .before .pre .0, omega arith, (sym (c .before .before .before .before .name-fits .ensures) ∙ not-false (c .before .before .before .before .name-fits .result) (c .before .before .before .if1 .left)))
 
 returns-5 : tie.Need-returns-5
-returns-5 c = message-taken _ _ _ _ (c .before .before .before .before .before .before .before .before .before .before .before .pre .1) _ (four-none _ _ _ _ (message-is _ _ (sym (c .before .before .before .before .before .before .before .kind .given .1) ∙ c .before .before .before .before .before .before .before .before .before .message-shape .ensures) .0) (sym (c .before .before .before .before .before .name-fits .ensures) ∙ not-false (c .before .before .before .before .before .name-fits .result) (c .before .before .before .before .if1 .left)) (sym (c .before .before .before .message-declared .ensures) ∙ c .before .before .if2 .left) (lt-leb 32 (c .before .before .before .before .before .before .before .before .before .before .before .args .count) (omega arith))) refl (message-row _ _ _ (c .name-at .ensures) (message-is _ _ (sym (c .before .before .before .before .before .before .before .kind .given .1) ∙ c .before .before .before .before .before .before .before .before .before .message-shape .ensures) .1))
+returns-5 c = message-taken _ _ _ _ (c .before .before .before .before .before .before .before .before .before .before .before .pre .1) _ (four-none _ _ _ _ (message-is _ _ (sym (c .before .before .before .before .before .before .before .kind .given .1) ∙ c .before .before .before .before .before .before .before .before .before .message-shape .ensures) .0) (sym (c .before .before .before .before .before .name-fits .ensures) ∙ not-false (c .before .before .before .before .before .name-fits .result) (c .before .before .before .before .if1 .left)) (sym (c .before .before .before .message-declared .ensures) ∙ c .before .before .if2 .left) (lt-leb 64 (c .before .before .before .before .before .before .before .before .before .before .before .args .count) (omega arith))) refl (message-row _ _ _ (c .name-at .ensures) (message-is _ _ (sym (c .before .before .before .before .before .before .before .kind .given .1) ∙ c .before .before .before .before .before .before .before .before .before .message-shape .ensures) .1))
 
 pub message-line-spec : {M : Type 1} → statement M
 message-line-spec =

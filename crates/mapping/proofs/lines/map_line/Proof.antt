@@ -19,15 +19,15 @@ use Rattle.mapping.proofs.lines.map_line.Tie as tie
 -- where a field stands
 at-field : (c : tie.After-fields-of) (i : ℕ) → i < 3
     → FieldAt (c .before .before .args .line .now) 0 (length (c .before .before .args .line .now)) (getD (c .fields-of .result .from) i 0) (getD (c .fields-of .result .to) i 0) (field (split 9 (c .before .before .args .line .now)) i)
-at-field c i h = map-field (c .before .before .args .line .now) (c .fields-of .result) i (c .before .before .pre) (c .fields-of .ensures) h
+at-field c i h = map-field (c .before .before .args .line .now) (c .fields-of .result) i (c .before .before .pre .0) (c .fields-of .ensures) h
 
 -- whether the line names the message
 matched : (c : tie.After-named) → c .named .result ≡ sameText (nameText (c .before .before .before .before .before .before .before .args .row .name)) (field (split 9 (c .before .before .before .before .before .before .before .args .line .now)) 1)
 matched c = c .named .ensures ∙ ap (sameText (nameText (c .before .before .before .before .before .before .before .args .row .name))) (at-field (c .before .before .before .before .before) 1 (omega arith) .bytes)
 
 -- the network that it writes
-written : (c : tie.After-network-of) → c .network-of .result ≡ foundNetwork (field (split 9 (c .before .before .before .before .before .before .before .before .before .before .args .line .now)) 2)
-written c = c .network-of .ensures ∙ ap foundNetwork (at-field (c .before .before .before .before .before .before .before .before) 2 (omega arith) .bytes)
+written : (c : tie.After-network-of) → c .network-of .result ≡ foundNetwork (c .before .before .before .before .before .before .before .before .before .before .args .most) (field (split 9 (c .before .before .before .before .before .before .before .before .before .before .args .line .now)) 2)
+written c = c .network-of .ensures ∙ ap (foundNetwork (c .before .before .before .before .before .before .before .before .before .before .args .most)) (at-field (c .before .before .before .before .before .before .before .before) 2 (omega arith) .bytes)
 
 fields-of-requires : tie.Need-fields-of-requires
 fields-of-requires c κs = search needs
@@ -61,8 +61,8 @@ no-network-requires c κs = search needs
 
 returns : tie.Need-returns
 returns c =
-    gives-none _ (c .before .before .before .before .before .before .before .before .before .args .row) _ (c .no-network .result) 14 (λ z. omega arith)
-    (line-unmatched _ _ (c .before .before .before .before .before .before .before .before .before .pre) (c .before .before .before .before .before .before .before .before .before .args .row) (sym (matched (c .before .before)) ∙ not-true (c .before .before .named .result) (c .before .if1 .taken))) (c .no-network .ensures)
+    gives-none (c .before .before .before .before .before .before .before .before .before .args .most) _ (c .before .before .before .before .before .before .before .before .before .args .row) _ (c .no-network .result) 14 (λ z. omega arith)
+    (λ before room. line-unmatched (c .before .before .before .before .before .before .before .before .before .args .most) before _ _ (c .before .before .before .before .before .before .before .before .before .pre .0) room (c .before .before .before .before .before .before .before .before .before .args .row) (sym (matched (c .before .before)) ∙ not-true (c .before .before .named .result) (c .before .if1 .taken))) (c .no-network .ensures)
 
 sub-network-of : tie.Need-sub-network-of
 sub-network-of c = at-field (c .before .before .before .before .before .before) 2 (omega arith) .order
@@ -74,7 +74,7 @@ part-network-of-end : tie.Need-part-network-of-end
 part-network-of-end c = at-field (c .before .before .before .before .before .before) 2 (omega arith) .to
 
 network-of-requires : tie.Need-network-of-requires
-network-of-requires c κs = search needs
+network-of-requires c κs = let p = c .before .before .before .before .before .before .before .before .before .pre in (p .1, p .2)
 
 enum-known-network : tie.Need-enum-known-network
 enum-known-network c = search needs
@@ -91,13 +91,13 @@ its-name c = sym (matched (c .before .before .before)) ∙ not-false (c .before 
 
 returns-2 : tie.Need-returns-2
 returns-2 c =
-    gives-none _ (c .before .before .before .before .before .before .before .before .before .before .before .before .before .args .row) _ (c .no-network2 .result) 15 (λ z. omega arith)
-    (line-no-network _ _ (c .before .before .before .before .before .before .before .before .before .before .before .before .before .pre) (c .before .before .before .before .before .before .before .before .before .before .before .before .before .args .row) (its-name (c .before .before .before)) (not-found _ (sym (c .before .enum-told .given .1) ∙ written (c .before .before .before)))) (c .no-network2 .ensures)
+    gives-none (c .before .before .before .before .before .before .before .before .before .before .before .before .before .args .most) _ (c .before .before .before .before .before .before .before .before .before .before .before .before .before .args .row) _ (c .no-network2 .result) 15 (λ z. omega arith)
+    (λ before room. line-no-network (c .before .before .before .before .before .before .before .before .before .before .before .before .before .args .most) before _ _ (c .before .before .before .before .before .before .before .before .before .before .before .before .before .pre .0) room (c .before .before .before .before .before .before .before .before .before .before .before .before .before .args .row) (its-name (c .before .before .before)) (not-found (c .before .before .before .before .before .before .before .before .before .before .before .before .before .args .most) _ (sym (c .before .enum-told .given .1) ∙ written (c .before .before .before)))) (c .no-network2 .ensures)
 
 returns-3 : tie.Need-returns-3
 returns-3 c =
-    let w = is-found _ (c .before .network .given .0 .0) (sym (c .before .network .given .1) ∙ written (c .before .before .before)) in
-    gives-network _ (c .before .before .before .before .before .before .before .before .before .before .before .before .before .args .row) _ _ (line-passes _ _ (c .before .before .before .before .before .before .before .before .before .before .before .before .before .pre) (c .before .before .before .before .before .before .before .before .before .before .before .before .before .args .row) (its-name (c .before .before .before)) (w .0)) refl (w .1)
+    let w = is-found (c .before .before .before .before .before .before .before .before .before .before .before .before .before .args .most) _ (c .before .network .given .0 .0) (sym (c .before .network .given .1) ∙ written (c .before .before .before)) in
+    gives-network (c .before .before .before .before .before .before .before .before .before .before .before .before .before .args .most) _ (c .before .before .before .before .before .before .before .before .before .before .before .before .before .args .row) _ _ (λ before room. line-passes (c .before .before .before .before .before .before .before .before .before .before .before .before .before .args .most) before _ _ (c .before .before .before .before .before .before .before .before .before .before .before .before .before .pre .0) room (c .before .before .before .before .before .before .before .before .before .before .before .before .before .args .row) (its-name (c .before .before .before)) (w .0)) refl (w .1)
 
 pub map-line-spec : {M : Type 1} → statement M
 map-line-spec =

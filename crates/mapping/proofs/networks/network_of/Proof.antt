@@ -14,7 +14,7 @@ one-digit-requires : tie.Need-one-digit-requires
 one-digit-requires c κs = search needs
 
 returns : tie.Need-returns
-returns c = c .one-digit .ensures ∙ ap foundNetwork (sym (of-one (c .before .before .before .before .args .field .now) (omega arith)))
+returns c = c .one-digit .ensures ∙ ap (foundNetwork (c .before .before .before .before .args .most)) (sym (of-one (c .before .before .before .before .args .field .now) (omega arith)))
 
 shared-slice-read-two-digits : tie.Need-shared-slice-read-two-digits
 shared-slice-read-two-digits c = search needs
@@ -26,10 +26,10 @@ two-digits-requires : tie.Need-two-digits-requires
 two-digits-requires c κs = search needs
 
 returns-2 : tie.Need-returns-2
-returns-2 c = c .two-digits .ensures ∙ ap foundNetwork (sym (of-two (c .before .before .before .before .before .before .args .field .now) (omega arith)))
+returns-2 c = c .two-digits .ensures ∙ ap (foundNetwork (c .before .before .before .before .before .before .args .most)) (sym (of-two (c .before .before .before .before .before .before .args .field .now) (omega arith)))
 
 returns-3 : tie.Need-returns-3
-returns-3 c = found-none _ (length-none (c .before .before .before .args .field .now) (c .before .if1 .left) (c .if2 .left))
+returns-3 c = let s = c .before .before .before in found-none (s .args .most) _ (length-none (s .args .most) (s .pre .0) (omega arith) (s .args .field .now) (c .before .if1 .left) (c .if2 .left))
 
 pub network-of-spec : {M : Type 1} → statement M
 network-of-spec =

@@ -16,11 +16,11 @@ Inv-loop n messages cycle total₀ j₀ total j = (j ≤ n) × TextLength (names
 abbrev μ-loop : tie.MeasureT-loop
 μ-loop n messages cycle total₀ j₀ total j = n - j
 
--- there are 32 rows, and 32 places for messages
-rows : (c : tie.Start Inv-loop μ-loop) → length (c .args .t1) ≡ 32
+-- there are 64 rows, and 64 places for messages
+rows : (c : tie.Start Inv-loop μ-loop) → length (c .args .t1) ≡ 64
 rows c = search needs
 
-places : (c : tie.Start Inv-loop μ-loop) → length (c .args .t2) ≡ 32
+places : (c : tie.Start Inv-loop μ-loop) → length (c .args .t2) ≡ 64
 places c = search needs
 
 loop-holds : tie.Need-loop-holds Inv-loop μ-loop
@@ -34,7 +34,7 @@ index-requires : tie.Need-index-requires Inv-loop μ-loop
 index-requires c κs = search needs
 
 -- the message has a row
-below : (c : tie.After-index Inv-loop μ-loop) → c .index .result < 32
+below : (c : tie.After-index Inv-loop μ-loop) → c .index .result < 64
 below c = omega (arith, c .index .ensures, message-below _ (c .before .before .before .before .args .t2) (c .before .before .before .before .args .n) (c .before .before .before .loop .j) (omega arith) refl (c .before .before .before .before .pre .1))
 
 mul-row : tie.Need-mul-row Inv-loop μ-loop

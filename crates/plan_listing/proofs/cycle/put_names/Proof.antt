@@ -21,15 +21,15 @@ Inv-loop out₀ n messages cycle at₀ i₀ out at i = (i ≤ n) × (length out 
 abbrev μ-loop : tie.MeasureT-loop
 μ-loop out₀ n messages cycle at₀ i₀ out at i = n - i
 
--- there are 32 rows, and 32 places for messages
-rows : (c : tie.Start Inv-loop μ-loop) → length (c .args .t2) ≡ 32
+-- there are 64 rows, and 64 places for messages
+rows : (c : tie.Start Inv-loop μ-loop) → length (c .args .t2) ≡ 64
 rows c = search needs
 
-places : (c : tie.Start Inv-loop μ-loop) → length (c .args .t3) ≡ 32
+places : (c : tie.Start Inv-loop μ-loop) → length (c .args .t3) ≡ 64
 places c = search needs
 
 -- the message has a row
-below : (c : tie.After-index Inv-loop μ-loop) → c .index .result < 32
+below : (c : tie.After-index Inv-loop μ-loop) → c .index .result < 64
 below c = omega (arith, c .index .ensures, message-below noStep (c .before .before .before .before .before .args .t3) (c .before .before .before .before .before .args .n) (c .before .before .before .loop .i) (omega arith) refl (c .before .before .before .before .before .pre .1))
 
 -- the next name, and room for it

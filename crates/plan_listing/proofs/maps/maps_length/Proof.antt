@@ -17,11 +17,11 @@ Inv-loop n messages networks total₀ j₀ total j = (j ≤ n) × TextLength (ma
 abbrev μ-loop : tie.MeasureT-loop
 μ-loop n messages networks total₀ j₀ total j = n - j
 
--- there are 32 rows, and 32 networks
-rows : (c : tie.Start Inv-loop μ-loop) → length (c .args .t1) ≡ 32
+-- there are 64 rows, and 64 networks
+rows : (c : tie.Start Inv-loop μ-loop) → length (c .args .t1) ≡ 64
 rows c = search needs
 
-networks : (c : tie.Start Inv-loop μ-loop) → length (c .args .t3) ≡ 32
+networks : (c : tie.Start Inv-loop μ-loop) → length (c .args .t3) ≡ 64
 networks c = search needs
 
 loop-holds : tie.Need-loop-holds Inv-loop μ-loop

@@ -20,11 +20,11 @@ Inv-loop out₀ n messages networks at₀ i₀ out at i = (i ≤ n) × (length o
 abbrev μ-loop : tie.MeasureT-loop
 μ-loop out₀ n messages networks at₀ i₀ out at i = n - i
 
--- there are 32 rows, and 32 networks
-rows : (c : tie.Start Inv-loop μ-loop) → length (c .args .t2) ≡ 32
+-- there are 64 rows, and 64 networks
+rows : (c : tie.Start Inv-loop μ-loop) → length (c .args .t2) ≡ 64
 rows c = search needs
 
-networks : (c : tie.Start Inv-loop μ-loop) → length (c .args .t4) ≡ 32
+networks : (c : tie.Start Inv-loop μ-loop) → length (c .args .t4) ≡ 64
 networks c = search needs
 
 -- the next line, and room for it

@@ -74,7 +74,7 @@ returns-2 c =
     c .refused-at .ensures
     ∙ sym (message-bad (a .text .now) (a .from) (a .first) (a .given) (l .at) (l .line) (l .t) (c .before .before .before .before .before .before .before .before .before .before .before .loop-test .taken) (n .result .end) (n .ensures .ends) (l .inv) (m .result) (m .ensures) (c .before .if2 .taken))
 
-few : (c : tie.After-row Inv-loop μ-loop) → c .before .before .before .before .before .before .before .before .before .before .before .before .loop .t .«message_count» < 32
+few : (c : tie.After-row Inv-loop μ-loop) → c .before .before .before .before .before .before .before .before .before .before .before .before .loop .t .«message_count» < 64
 few c =
     let a = c .before .before .before .before .before .before .before .before .before .before .before .before .before .before .args in
     let l = c .before .before .before .before .before .before .before .before .before .before .before .before .loop in

@@ -2,21 +2,23 @@
 use Prim.Native.Nat.{_-_}
 use native.Mathlib.Omega.{arith}
 use Rattle.rows.proofs.FillingRows.{FillingRows, fill-start}
-use Rattle.relations.proofs.row_bytes.RowLaws.{IsRow, load-step, load-end}
+use Rattle.relations.proofs.row_bytes.RowLaws.{row-within, IsRow, load-step, load-end}
 use Rattle.relations.proofs.row_bytes.load.Statement.{statement}
 use Rattle.relations.proofs.row_bytes.load.Tie as tie
 
 abbrev Inv-loop : tie.InvT-loop
-Inv-loop table n rows₀ i₀ rows i = FillingRows (IsRow 4 n table) n rows₀ rows i
+Inv-loop table size n rows₀ i₀ rows i = FillingRows (IsRow size n table) n rows₀ rows i
 
 abbrev μ-loop : tie.MeasureT-loop
-μ-loop table n rows₀ i₀ rows i = n - i
+μ-loop table size n rows₀ i₀ rows i = n - i
 
 loop-holds : tie.Need-loop-holds Inv-loop μ-loop
-loop-holds c = let a = c .before .before .args in fill-start (IsRow 4 (a .n) (a .table .now)) (a .n) (a .rows .now)
+loop-holds c = let a = c .before .before .args in fill-start (IsRow (a .size) (a .n) (a .table .now)) (a .n) (a .rows .now)
 
 row-at-requires : tie.Need-row-at-requires Inv-loop μ-loop
-row-at-requires c κs = omega arith
+row-at-requires c κs =
+    let s = c .before .before .before .before in
+    (s .pre .0, omega (arith, row-within (s .args .size) (s .args .n) (c .before .loop .i) (s .pre .0) (omega arith), s .pre .2))
 
 mul-rows : tie.Need-mul-rows Inv-loop μ-loop
 mul-rows c = omega arith
@@ -34,7 +36,7 @@ loop-again : tie.Need-loop-again Inv-loop μ-loop
 loop-again c =
     let l = c .before .before .loop in
     let a = c .before .before .before .before .before .args in
-    load-step 4 (a .n) (a .table .now) (a .rows .now) (l .rows) (l .i) (c .row-at .result) (omega arith) (omega arith) (c .row-at .ensures) (l .inv)
+    load-step (a .size) (a .n) (a .table .now) (a .rows .now) (l .rows) (l .i) (c .row-at .result) (omega arith) (omega arith) (c .row-at .ensures) (l .inv)
 
 same-length : tie.Need-same-length Inv-loop μ-loop
 same-length c = c .before .loop .inv .long
@@ -43,7 +45,7 @@ returns : tie.Need-returns Inv-loop μ-loop
 returns c =
     let l = c .before .loop in
     let a = c .before .before .before .before .args in
-    load-end 4 (a .n) (a .table .now) (a .rows .now) (l .rows) (l .i) (omega arith) (l .inv)
+    load-end (a .size) (a .n) (a .table .now) (a .rows .now) (l .rows) (l .i) (omega arith) (l .inv)
 
 pub load-spec : {M : Type 1} → statement M
 load-spec =

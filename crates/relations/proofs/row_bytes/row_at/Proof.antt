@@ -1,46 +1,27 @@
 -- `relations::row_bytes::row_at` meets its contract.
 use Prim.Native.Nat.{_*_}
-use native.Mathlib.Omega.{arith}
 use borrow.Author.Needs.{needs}
-use Rattle.relations.proofs.row_bytes.RowLaws.{four-bytes}
+use Rattle.relations.proofs.row_bytes.RowLaws.{row-narrow, row-halves, first-within, next-within}
 use Rattle.relations.proofs.row_bytes.row_at.Statement.{statement}
 use Rattle.relations.proofs.row_bytes.row_at.Tie as tie
 
 mul-k : tie.Need-mul-k
 mul-k c = search needs
 
-shared-slice-read-wide : tie.Need-shared-slice-read-wide
-shared-slice-read-wide c = search needs
+four-bytes-requires : tie.Need-four-bytes-requires
+four-bytes-requires c κs = let s = c .before in first-within (s .args .size) (s .args .size * s .args .i) _ (s .pre .0) (s .pre .1)
 
-wide-requires : tie.Need-wide-requires
-wide-requires c κs = search needs
+returns : tie.Need-returns
+returns c =
+    let a = c .before .before .before .args in
+    let f = c .before .four-bytes in
+    row-narrow (a .size) (a .table .now) (a .size * a .i) (f .result) (c .if1 .taken) (f .ensures .0)
 
-add-wide : tie.Need-add-wide
-add-wide c = search needs
+add-four-bytes : tie.Need-add-four-bytes
+add-four-bytes c = search needs
 
-shared-slice-read-wide-2 : tie.Need-shared-slice-read-wide-2
-shared-slice-read-wide-2 c = search needs
-
-wide-requires-2 : tie.Need-wide-requires-2
-wide-requires-2 c κs = search needs
-
-add-wide-2 : tie.Need-add-wide-2
-add-wide-2 c = search needs
-
-shared-slice-read-wide-3 : tie.Need-shared-slice-read-wide-3
-shared-slice-read-wide-3 c = search needs
-
-wide-requires-3 : tie.Need-wide-requires-3
-wide-requires-3 c κs = search needs
-
-add-wide-3 : tie.Need-add-wide-3
-add-wide-3 c = search needs
-
-shared-slice-read-wide-4 : tie.Need-shared-slice-read-wide-4
-shared-slice-read-wide-4 c = search needs
-
-wide-requires-4 : tie.Need-wide-requires-4
-wide-requires-4 c κs = search needs
+four-bytes-requires-2 : tie.Need-four-bytes-requires-2
+four-bytes-requires-2 c κs = let s = c .before .before .before in next-within (s .args .size) (s .args .size * s .args .i) _ (s .pre .0) (c .if1 .left) (s .pre .1)
 
 mul-result : tie.Need-mul-result
 mul-result c = search needs
@@ -48,41 +29,22 @@ mul-result c = search needs
 add-result : tie.Need-add-result
 add-result c = search needs
 
-mul-result-2 : tie.Need-mul-result-2
-mul-result-2 c = search needs
-
-add-result-2 : tie.Need-add-result-2
-add-result-2 c = search needs
-
-mul-result-3 : tie.Need-mul-result-3
-mul-result-3 c = search needs
-
-add-result-3 : tie.Need-add-result-3
-add-result-3 c = search needs
-
-returns : tie.Need-returns
-returns c = let a = c .before .before .before .before .before .before .before .before .before .args in omega (arith, four-bytes (a .table .now) (4 * a .i) (omega arith))
+returns-2 : tie.Need-returns-2
+returns-2 c =
+    let a = c .before .before .before .before .args in
+    let f = c .before .before .four-bytes in
+    let g = c .four-bytes2 in
+    row-halves (a .size) (a .table .now) (a .size * a .i) (f .result) (g .result) (c .before .before .before .before .pre .0) (c .before .if1 .left) (f .ensures .0) (g .ensures .0)
 
 pub row-at-spec : {M : Type 1} → statement M
 row-at-spec =
     tie.close
     (tie.spec
     mul-k
-    shared-slice-read-wide
-    wide-requires
-    add-wide
-    shared-slice-read-wide-2
-    wide-requires-2
-    add-wide-2
-    shared-slice-read-wide-3
-    wide-requires-3
-    add-wide-3
-    shared-slice-read-wide-4
-    wide-requires-4
+    four-bytes-requires
+    returns
+    add-four-bytes
+    four-bytes-requires-2
     mul-result
     add-result
-    mul-result-2
-    add-result-2
-    mul-result-3
-    add-result-3
-    returns)
+    returns-2)

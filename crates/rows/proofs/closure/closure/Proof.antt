@@ -18,19 +18,12 @@ loop-holds c = close-start _ _
 round-requires : tie.Need-round-requires Inv-loop μ-loop
 round-requires c κs = omega arith
 
-cast-joins : tie.Need-cast-joins Inv-loop μ-loop
-cast-joins c =
-    let r = c .before .before .round in
-    let l = c .before .before .before .before .before .loop in
-    let a = c .before .before .before .before .before .before .before .args in
-    omega (arith, holders-few (l .t) (a .n) (l .k) (r .result) (r .ensures .1))
-
 add-joins : tie.Need-add-joins Inv-loop μ-loop
 add-joins c =
     let r = c .before .before .round in
     let l = c .before .before .before .before .before .loop in
     let a = c .before .before .before .before .before .before .before .args in
-    omega (arith, close-small (a .t .now) (a .n) 32 (l .t) (l .k) (l .joins) (omega arith) (l .inv), holders-few (l .t) (a .n) (l .k) (r .result) (r .ensures .1))
+    omega (arith, close-small (a .t .now) (a .n) 64 (l .t) (l .k) (l .joins) (omega arith) (l .inv), holders-few (l .t) (a .n) (l .k) (r .result) (r .ensures .1))
 
 add-k : tie.Need-add-k Inv-loop μ-loop
 add-k c = omega arith
@@ -62,7 +55,6 @@ closure-spec =
     μ-loop
     loop-holds
     round-requires
-    cast-joins
     add-joins
     add-k
     loop-less

@@ -8,8 +8,8 @@ use borrow.Author.Needs.{needs}
 use Rattle.table_rows.proofs.carriers.carriers.Statement.{statement}
 use Rattle.table_rows.proofs.carriers.carriers.Tie as tie
 
-small : (c : tie.After-index) → c .before .before .t .given .0 .0 .0 < 32
-small c = subst (TriggerOk 32 8) (c .before .before .t .given .1) (c .before .before .before .before .pre .trigger)
+small : (c : tie.After-index) → c .before .before .t .given .0 .0 .0 < 64
+small c = subst (TriggerOk 64 8) (c .before .before .t .given .1) (c .before .before .before .before .pre .trigger)
 
 enum-known-t : tie.Need-enum-known-t
 enum-known-t c = search needs

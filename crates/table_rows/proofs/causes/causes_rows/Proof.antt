@@ -21,7 +21,7 @@ long : (c : tie.Start Inv-loop μ-loop) → length (c .args .t1 .cells) ≡ 512
 long c = sym (length-map (c .args .t1 .cells) _) ∙ c .good .0 .1 .1 .1 .1 .1 .0 .1 .0 .1
 
 loop-holds : tie.Need-loop-holds Inv-loop μ-loop
-loop-holds c = (search needs, upto-none CellCauses (c .args .t1 .cells) 32)
+loop-holds c = (search needs, upto-none CellCauses (c .args .t1 .cells) 64)
 
 mul-sender : tie.Need-mul-sender Inv-loop μ-loop
 mul-sender c = omega arith

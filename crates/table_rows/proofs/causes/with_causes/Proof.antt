@@ -12,8 +12,8 @@ use borrow.Author.Needs.{needs}
 use Rattle.table_rows.proofs.causes.with_causes.Statement.{statement}
 use Rattle.table_rows.proofs.causes.with_causes.Tie as tie
 
-small : (c : tie.After-sent-row) → c .before .before .before .t .given .0 .0 .0 < 32
-small c = subst (TriggerOk 32 8) (c .before .before .before .t .given .1) (c .before .before .before .before .before .before .before .pre .trigger)
+small : (c : tie.After-sent-row) → c .before .before .before .t .given .0 .0 .0 < 64
+small c = subst (TriggerOk 64 8) (c .before .before .before .t .given .1) (c .before .before .before .before .before .before .before .pre .trigger)
 
 enum-told : tie.Need-enum-told
 enum-told c = search needs
@@ -55,7 +55,7 @@ returns-3 : tie.Need-returns-3
 returns-3 c =
     let m = c .before .before .before .t .given in
     let g = c .before .before .before .before .before .enum-told2 .given in
-    let e : length (c .before .before .before .before .before .before .before .args .rows) ≡ 32 = search needs in
+    let e : length (c .before .before .before .before .before .before .before .args .rows) ≡ 64 = search needs in
     rw (c .before .index .ensures)
     (adds-row (CellCauses (asRuleCell (c .before .before .before .before .before .before .before .args .d))) (c .before .before .before .before .before .before .before .args .rows) (m .0 .0 .0) (c .sent-row .result) (omega (arith, small c))
     (λ b. ↔-trans (c .sent-row .ensures b) (message-causes (c .before .before .before .before .before .before .before .args .d) (g .0 .0) (m .0 .0) (g .1) (m .1) b))

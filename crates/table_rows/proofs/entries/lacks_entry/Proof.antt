@@ -26,7 +26,7 @@ returns-2 c = answer-no (event-no-entry (c .before .before .before .before .args
 
 returns-3 : tie.Need-returns-3
 returns-3 c =
-    let r = answer-empty 32 (c .before .before .before .before .args .row) (omega arith) in
+    let r = answer-empty 64 (c .before .before .before .before .args .row) (omega arith) in
     (λ e. message-no-entry (c .before .before .before .before .args .d) (Bit (c .before .before .before .before .args .row)) (c .enum-told4 .given .0 .0) (c .before .before .enum-told2 .given .1) (c .enum-told4 .given .1) (r .0 e), λ t. r .1 (t .2))
 
 pub lacks-entry-spec : {M : Type 1} → statement M

@@ -26,10 +26,10 @@ long : (c : tie.Start Inv-loop μ-loop) → length (c .args .d .sent) ≡ 8
 long c = sym (length-map (c .args .d .sent) _) ∙ c .good .0 .1 .1 .1 .1 .1 .0 .1 .0 .1
 
 -- the message is one of those that the cell sends
-small : (c : tie.After-index Inv-loop μ-loop) → c .index .result < 32
+small : (c : tie.After-index Inv-loop μ-loop) → c .index .result < 64
 small c =
     let e = long (c .before .before .before .before .before .before) in
-    subst (λ (n : ℕ). n < 32) (sym (c .index .ensures))
+    subst (λ (n : ℕ). n < 64) (sym (c .index .ensures))
     (c .before .before .before .before .before .before .pre .sent _ (sent-in (c .before .before .before .before .before .before .args .d) _ (record { 0 = 0 }) (omega arith) (omega (arith, c .before .before .before .before .before .before .pre .few))))
 
 cast-n : tie.Need-cast-n Inv-loop μ-loop

@@ -26,7 +26,7 @@ carrier-rows-requires : tie.Need-carrier-rows-requires Inv-loop μ-loop
 carrier-rows-requires c κs = c .pre
 
 loop-holds : tie.Need-loop-holds Inv-loop μ-loop
-loop-holds c = (search needs, upto-none (CellStalls (Among (c .carrier-rows .result))) (c .before .args .t1 .cells) 32)
+loop-holds c = (search needs, upto-none (CellStalls (Among (c .carrier-rows .result))) (c .before .args .t1 .cells) 64)
 
 mul-stalling : tie.Need-mul-stalling Inv-loop μ-loop
 mul-stalling c = omega arith

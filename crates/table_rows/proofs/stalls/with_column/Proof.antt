@@ -10,7 +10,7 @@ abbrev Inv-loop : tie.InvT-loop
 Inv-loop who b next₀ i₀ next i = Columns who (b .0) next₀ i next
 
 abbrev μ-loop : tie.MeasureT-loop
-μ-loop who b next₀ i₀ next i = 32 - i
+μ-loop who b next₀ i₀ next i = 64 - i
 
 loop-holds : tie.Need-loop-holds Inv-loop μ-loop
 loop-holds c = columns-start (c .args .who) (c .args .b .0) (c .args .rows) (search needs)

@@ -31,7 +31,7 @@ array-read-with-column : tie.Need-array-read-with-column
 array-read-with-column c = search needs
 
 with-column-requires : tie.Need-with-column-requires
-with-column-requires c κs = subst (TriggerOk 32 8) (c .before .before .t .given .1) (c .before .before .before .before .before .before .pre .trigger)
+with-column-requires c κs = subst (TriggerOk 64 8) (c .before .before .t .given .1) (c .before .before .before .before .before .before .pre .trigger)
 
 returns : tie.Need-returns
 returns c = adds-none (CellStalls (Among (c .before .before .args .t2)) (asRuleCell (c .before .before .args .d))) (c .before .before .args .rows) (go-stalls (c .before .before .args .d) (Among (c .before .before .args .t2)) (c .enum-told .given .0 .0) (c .enum-told .given .1))

@@ -31,7 +31,7 @@ loop-again : tie.Need-loop-again Inv-loop μ-loop
 loop-again c =
     let a = c .before .before .before .args in
     let l = c .before .before .loop in
-    (omega arith, queueing-more (mappingOf (a .networks)) (a .stalled) (a .m .0) (l .i) (l .row) (c .with-behind .result) (let h : c .with-behind .result < 2 ^ 32 = omega (arith, c .with-behind .ok) in h) (c .with-behind .ensures) (l .inv .1))
+    (omega arith, queueing-more (mappingOf (a .networks)) (a .stalled) (a .m .0) (l .i) (l .row) (c .with-behind .result) (c .with-behind .ensures) (l .inv .1))
 
 returns : tie.Need-returns Inv-loop μ-loop
 returns c =

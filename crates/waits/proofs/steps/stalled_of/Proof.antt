@@ -8,13 +8,13 @@ use Rattle.waits.proofs.steps.stalled_of.Statement.{statement}
 use Rattle.waits.proofs.steps.stalled_of.Tie as tie
 
 abbrev Inv-loop : tie.InvT-loop
-Inv-loop n stalls all₀ a₀ all a = Together 32 stalls n all a
+Inv-loop n stalls all₀ a₀ all a = Together 64 stalls n all a
 
 abbrev μ-loop : tie.MeasureT-loop
 μ-loop n stalls all₀ a₀ all a = n - a
 
 loop-holds : tie.Need-loop-holds Inv-loop μ-loop
-loop-holds c = together-start 32 (c .args .t1) (c .args .n)
+loop-holds c = together-start 64 (c .args .t1) (c .args .n)
 
 mul-join : tie.Need-mul-join Inv-loop μ-loop
 mul-join c = omega arith
@@ -35,13 +35,13 @@ loop-again : tie.Need-loop-again Inv-loop μ-loop
 loop-again c =
     let s = c .before .before .before in
     let l = c .before .before .loop in
-    together-step 32 (s .args .t1) (s .args .n) (l .all) (l .a) (c .join .result) (omega arith) (c .join .ensures) (let h : c .join .result < 2 ^ 32 = omega (arith, c .join .ok) in h) (l .inv)
+    together-step 64 (s .args .t1) (s .args .n) (l .all) (l .a) (c .join .result) (omega arith) (c .join .ensures) (let h : c .join .result < 2 ^ 64 = omega (arith, c .join .ok) in h) (l .inv)
 
 returns : tie.Need-returns Inv-loop μ-loop
 returns c =
     let s = c .before .before in
     let l = c .before .loop in
-    stalled-end (s .args .t1) (s .args .n) (l .all) (l .a) (omega arith) (l .inv)
+    stalled-end 64 (s .args .t1) (s .args .n) (l .all) (l .a) (omega arith) (l .inv)
 
 pub stalled-of-spec : {M : Type 1} → statement M
 stalled-of-spec =

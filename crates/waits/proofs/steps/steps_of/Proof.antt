@@ -10,7 +10,7 @@ use Rattle.waits.proofs.steps.steps_of.Statement.{statement}
 use Rattle.waits.proofs.steps.steps_of.Tie as tie
 
 abbrev Inv-loop : tie.InvT-loop
-Inv-loop networks n waits stalled steps₀ i₀ steps i = FillingRows (IsSteps waits (mappingOf networks) stalled n) n (replicate 32 0) steps i
+Inv-loop networks n waits stalled steps₀ i₀ steps i = FillingRows (IsSteps waits (mappingOf networks) stalled n) n (replicate 64 0) steps i
 
 abbrev μ-loop : tie.MeasureT-loop
 μ-loop networks n waits stalled steps₀ i₀ steps i = n - i
@@ -21,7 +21,7 @@ stalled-of-requires c κs = c .pre
 loop-holds : tie.Need-loop-holds Inv-loop μ-loop
 loop-holds c =
     let a = c .before .args in
-    fill-start (IsSteps (a .t1) (mappingOf (a .networks)) (c .stalled-of .result) (a .n)) (a .n) (replicate 32 0)
+    fill-start (IsSteps (a .t1) (mappingOf (a .networks)) (c .stalled-of .result) (a .n)) (a .n) (replicate 64 0)
 
 cast-t11 : tie.Need-cast-t11 Inv-loop μ-loop
 cast-t11 c = omega arith
@@ -57,7 +57,7 @@ loop-again c =
     let d = c .before .before .before .before .stalled-of .result in
     let l = c .before .before .before .loop in
     let q = c .before .queues-row in
-    fill-step (IsSteps (a .t1) (mappingOf (a .networks)) d (a .n)) (a .n) (replicate 32 0) (l .steps) (l .i) (c .join .result) (s .pre) (omega arith)
+    fill-step (IsSteps (a .t1) (mappingOf (a .networks)) d (a .n)) (a .n) (replicate 64 0) (l .steps) (l .i) (c .join .result) (s .pre) (omega arith)
     (steps-row (a .t1) (mappingOf (a .networks)) d (a .n) (l .i) (q .result) (c .join .result) (q .ensures) (c .join .ensures)) (l .inv)
 
 returns : tie.Need-returns Inv-loop μ-loop
@@ -65,7 +65,7 @@ returns c =
     let a = c .before .before .before .args in
     let d = c .before .before .stalled-of in
     let l = c .before .loop in
-    steps-end (a .t1) (a .stalls) (mappingOf (a .networks)) (d .result) (a .n) (l .steps) (l .i) (omega arith) (d .ensures) (l .inv)
+    steps-end 64 (a .t1) (a .stalls) (mappingOf (a .networks)) (d .result) (a .n) (l .steps) (l .i) (omega arith) (d .ensures) (l .inv)
 
 pub steps-of-spec : {M : Type 1} → statement M
 steps-of-spec =

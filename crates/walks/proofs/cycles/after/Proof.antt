@@ -24,7 +24,7 @@ small : (c : tie.After-lowest Inv-loop μ-loop) → c .lowest .result < c .befor
 small c =
     let s = c .before .before .before .before in
     let l = c .before .before .loop in
-    s .pre .1 (c .lowest .result) (first-in (s .args .s .now) (s .args .set) (l .r) (l .left) (c .lowest .result) (c .lowest .ensures) (l .inv))
+    s .pre .1 (c .lowest .result) (first-in (s .args .s .now) (s .args .set) (l .r) (l .left) (c .lowest .result) (c .lowest .ensures .bit) (l .inv))
 
 mul-join : tie.Need-mul-join Inv-loop μ-loop
 mul-join c = omega (arith, small c)
@@ -49,7 +49,7 @@ loop-again c =
     let l = c .before .before .before .before .before .loop in
     let w = c .before .before .before .lowest in
     let t = c .without-lowest in
-    after-step (a .s .now) (a .set) (l .r) (l .left) (w .result) (w .ensures) (l .inv) (c .before .join .result) (t .result) (c .before .join .ensures) (t .ensures .cleared (w .result) (w .ensures))
+    after-step (a .s .now) (a .set) (l .r) (l .left) (w .result) (w .ensures .bit) (l .inv) (c .before .join .result) (t .result) (c .before .join .ensures) (t .ensures .cleared (w .result) (w .ensures))
 
 all-below-requires : tie.Need-all-below-requires Inv-loop μ-loop
 all-below-requires c κs = omega arith

@@ -8,10 +8,10 @@ use Rattle.walks.proofs.cycles.cycle.Statement.{statement}
 use Rattle.walks.proofs.cycles.cycle.Tie as tie
 
 abbrev Inv-loop : tie.InvT-loop
-Inv-loop w s n out len₀ start₀ most₀ x₀ len start most x = StartsInv w s n len start most x
+Inv-loop w s n sets out len₀ start₀ most₀ x₀ len start most x = StartsInv w s n len start most x
 
 abbrev μ-loop : tie.MeasureT-loop
-μ-loop w s n out len₀ start₀ most₀ x₀ len start most x = n - x
+μ-loop w s n sets out len₀ start₀ most₀ x₀ len start most x = n - x
 
 loop-holds : tie.Need-loop-holds Inv-loop μ-loop
 loop-holds c = starts-start _ _ _
@@ -30,7 +30,7 @@ loop-less c = omega arith
 
 loop-again : tie.Need-loop-again Inv-loop μ-loop
 loop-again c =
-    let a = c .before .before .before .before .before .before .before .args in
+    let a = c .before .before .before .before .before .before .before .before .args in
     let l = c .before .before .before .loop in
     let r = c .before .shortest in
     ⊎-elim
@@ -38,31 +38,40 @@ loop-again c =
     (λ u. rw (u .1, u .2, u .3) (starts-no (a .w .now) (a .s .now) (a .n) (l .len) (l .start) (l .most) (l .x) (omega arith) (l .inv) (r .result) (r .ensures) (u .0 .left)))
     (c .if1 .came)
 
-returns : tie.Need-returns Inv-loop μ-loop
-returns c =
-    let a = c .before .before .before .before .before .before .args in
-    let l = c .before .before .loop in
-    cycle-none (a .w .now) (a .s .now) (a .n) (a .out .now) (starts-none (a .w .now) (a .s .now) (a .n) (l .len) (l .start) (l .most) (l .x) (omega arith) (l .inv) (c .if2 .taken))
-
-draw-requires : tie.Need-draw-requires Inv-loop μ-loop
-draw-requires c κs =
-    let a = c .before .before .before .before .before .before .before .args in
-    let l = c .before .before .before .loop in
-    let d = c .before .if2 .left in
-    let g = l .inv .some d in (
-      (omega arith, omega (arith, g .before-x, l .inv .at-most), omega (arith, d), l .inv .len-small, omega arith, omega arith, omega arith),
-      (c .before .before .before .before .before .before .before .pre .1, starts-found (a .w .now) (a .s .now) (a .n) (l .len) (l .start) (l .most) (l .x) (omega arith) (l .inv) d),
-    )
+clear-requires : tie.Need-clear-requires Inv-loop μ-loop
+clear-requires c κs = search needs
 
 same-length : tie.Need-same-length Inv-loop μ-loop
 same-length c = search needs
 
+returns : tie.Need-returns Inv-loop μ-loop
+returns c =
+    let a = c .before .before .before .before .before .before .before .before .before .before .before .args in
+    let l = c .before .before .before .before .before .before .loop in
+    (cycle-none (a .w .now) (a .s .now) (a .n) (a .out .now) (starts-none (a .w .now) (a .s .now) (a .n) (l .len) (l .start) (l .most) (l .x) (omega arith) (l .inv) (c .before .before .before .before .if2 .taken)), c .before .before .clear .ensures)
+
+draw-requires : tie.Need-draw-requires Inv-loop μ-loop
+draw-requires c κs =
+    let a = c .before .before .before .before .before .before .before .before .before .args in
+    let l = c .before .before .before .before .loop in
+    let d = c .before .before .if2 .left in
+    let g = l .inv .some d in (
+      (omega arith, omega (arith, g .before-x, l .inv .at-most), omega (arith, d), l .inv .len-small, omega arith, omega arith, omega arith, omega arith),
+      (c .before .before .before .before .before .before .before .before .before .pre .1, starts-found (a .w .now) (a .s .now) (a .n) (l .len) (l .start) (l .most) (l .x) (omega arith) (l .inv) d),
+    )
+
+same-length-2 : tie.Need-same-length-2 Inv-loop μ-loop
+same-length-2 c = search needs
+
+same-length-3 : tie.Need-same-length-3 Inv-loop μ-loop
+same-length-3 c = search needs
+
 returns-2 : tie.Need-returns-2 Inv-loop μ-loop
 returns-2 c =
-    let a = c .before .before .before .before .before .before .before .before .before .before .args in
-    let l = c .before .before .before .before .before .before .loop in
-    let w = c .before .before .draw in
-    cycle-some (a .w .now) (a .s .now) (a .n) (a .out .now) _ (l .len) (c .before .before .before .before .if2 .left) (l .inv .len-small) (w .kept .1 .1 .1 .1 .1 .0) (w .ensures)
+    let a = c .before .before .before .before .before .before .before .before .before .before .before .before .before .before .args in
+    let l = c .before .before .before .before .before .before .before .before .before .loop in
+    let w = c .before .before .before .before .draw in
+    (cycle-some (a .w .now) (a .s .now) (a .n) (a .out .now) _ (l .len) (c .before .before .before .before .before .before .before .if2 .left) (l .inv .len-small) (w .kept .1 .1 .1 .1 .1 .1 .0) (w .ensures .0), w .ensures .1)
 
 pub cycle-spec : {M : Type 1} → statement M
 cycle-spec =
@@ -76,7 +85,10 @@ cycle-spec =
     add-x
     loop-less
     loop-again
+    clear-requires
+    same-length
     returns
     draw-requires
-    same-length
+    same-length-2
+    same-length-3
     returns-2)

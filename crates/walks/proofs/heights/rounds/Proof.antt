@@ -1,13 +1,14 @@
 -- `walks::heights::rounds` meets its contract.
 use Prim.Native.Nat.{_-_}
+use mathlib.Core.Path.{_∙_}
+use lib.ListN.{length-set}
 use native.Mathlib.Omega.{arith}
-use borrow.Author.Needs.{needs}
-use Rattle.walks.proofs.heights.Levels.{RoundsInv, rounds-start, rounds-stuck, rounds-end, rounds-step, rounds-full}
+use Rattle.walks.proofs.heights.Levels.{RoundsInv, rounds-start, rounds-kept, rounds-stuck, rounds-end, rounds-step, rounds-full}
 use Rattle.walks.proofs.heights.rounds.Statement.{statement}
 use Rattle.walks.proofs.heights.rounds.Tie as tie
 
 abbrev Inv-loop : tie.InvT-loop
-Inv-loop w n sets₀ set₀ k₀ sets set k = RoundsInv w n sets set k
+Inv-loop w n sets₀ set₀ k₀ sets set k = RoundsInv w n sets₀ sets set k
 
 abbrev μ-loop : tie.MeasureT-loop
 μ-loop w n sets₀ set₀ k₀ sets set k = n - k
@@ -15,54 +16,59 @@ abbrev μ-loop : tie.MeasureT-loop
 all-below-requires : tie.Need-all-below-requires Inv-loop μ-loop
 all-below-requires c κs = omega arith
 
-element-write-sets : tie.Need-element-write-sets Inv-loop μ-loop
-element-write-sets c = search needs
-
 loop-holds : tie.Need-loop-holds Inv-loop μ-loop
-loop-holds c =
-    let s = c .before .before in
-    rounds-start (s .args .w .now) (s .args .n) (s .args .sets .now) (c .all-below .result) (omega arith) (s .pre .1) (c .all-below .ensures)
-
-into-requires : tie.Need-into-requires Inv-loop μ-loop
-into-requires c κs = omega arith
-
-returns : tie.Need-returns Inv-loop μ-loop
-returns c =
-    let a = c .before .before .before .before .before .before .args in
-    let l = c .before .before .before .loop in
-    rounds-stuck (a .w .now) (a .n) (l .sets) (l .set) (l .k) (c .before .into .result) (omega arith) (omega arith) (l .inv) (c .before .into .ensures) (c .if1 .taken)
-
-add-k : tie.Need-add-k Inv-loop μ-loop
-add-k c = omega arith
+loop-holds c = let a = c .before .before .before .args in rounds-start (a .w .now) (a .n) (a .sets .now) (c .all-below .result) (omega arith) (c .all-below .ensures)
 
 mul-sets : tie.Need-mul-sets Inv-loop μ-loop
 mul-sets c = omega arith
 
-element-write-sets-2 : tie.Need-element-write-sets-2 Inv-loop μ-loop
-element-write-sets-2 c = omega arith
+slice-write-sets : tie.Need-slice-write-sets Inv-loop μ-loop
+slice-write-sets c = omega (arith, c .before .loop .inv .kept .long)
+
+into-requires : tie.Need-into-requires Inv-loop μ-loop
+into-requires c κs = omega arith
+
+add-k : tie.Need-add-k Inv-loop μ-loop
+add-k c = omega arith
+
+same-length : tie.Need-same-length Inv-loop μ-loop
+same-length c = let l = c .before .before .before .loop in length-set (l .sets) (l .k) (l .set) ∙ l .inv .kept .long
+
+returns : tie.Need-returns Inv-loop μ-loop
+returns c =
+    let a = c .before .before .before .before .before .before .before .args in
+    let l = c .before .before .before .loop in
+    let i = c .before .into in
+    (rounds-end (a .w .now) (a .n) (a .sets .now) (l .sets) (l .set) (l .k) (i .result) (omega arith) (omega arith) (l .inv) (i .ensures) (c .if1 .taken), rounds-kept (a .w .now) (a .n) (a .sets .now) (l .sets) (l .set) (l .k) (i .result) (omega arith) (omega arith) (l .inv) (i .ensures))
+
+same-length-2 : tie.Need-same-length-2 Inv-loop μ-loop
+same-length-2 c = let l = c .before .before .before .before .loop in length-set (l .sets) (l .k) (l .set) ∙ l .inv .kept .long
 
 returns-2 : tie.Need-returns-2 Inv-loop μ-loop
 returns-2 c =
-    let a = c .before .before .before .before .before .before .before .args in
+    let a = c .before .before .before .before .before .before .before .before .args in
     let l = c .before .before .before .before .loop in
     let i = c .before .before .into in
-    rounds-end (a .w .now) (a .n) (l .sets) (l .set) (l .k) (i .result) (omega arith) (omega arith) (l .inv) (i .ensures) (c .if2 .taken)
+    (rounds-stuck (a .w .now) (a .n) (a .sets .now) (l .sets) (l .set) (l .k) (i .result) (omega arith) (omega arith) (l .inv) (i .ensures) (c .if2 .taken), rounds-kept (a .w .now) (a .n) (a .sets .now) (l .sets) (l .set) (l .k) (i .result) (omega arith) (omega arith) (l .inv) (i .ensures))
 
 loop-less : tie.Need-loop-less Inv-loop μ-loop
 loop-less c = omega arith
 
 loop-again : tie.Need-loop-again Inv-loop μ-loop
 loop-again c =
-    let a = c .before .before .before .before .before .before .before .args in
+    let a = c .before .before .before .before .before .before .before .before .args in
     let l = c .before .before .before .before .loop in
     let i = c .before .before .into in
-    rounds-step (a .w .now) (a .n) (l .sets) (l .set) (l .k) (i .result) (omega arith) (omega arith) (l .inv) (i .ensures) (i .ok) (c .if2 .left)
+    rounds-step (a .w .now) (a .n) (a .sets .now) (l .sets) (l .set) (l .k) (i .result) (omega arith) (omega arith) (l .inv) (i .ensures) (c .before .if1 .left)
+
+same-length-3 : tie.Need-same-length-3 Inv-loop μ-loop
+same-length-3 c = c .before .loop .inv .kept .long
 
 returns-3 : tie.Need-returns-3 Inv-loop μ-loop
 returns-3 c =
-    let a = c .before .before .before .before .args in
+    let a = c .before .before .before .before .before .args in
     let l = c .before .loop in
-    rounds-full (a .w .now) (a .n) (l .sets) (l .set) (l .k) (omega arith) (l .inv)
+    (rounds-full (a .w .now) (a .n) (a .sets .now) (l .sets) (l .set) (l .k) (omega arith) (l .inv), l .inv .kept)
 
 pub rounds-spec : {M : Type 1} → statement M
 rounds-spec =
@@ -71,14 +77,16 @@ rounds-spec =
     Inv-loop
     μ-loop
     all-below-requires
-    element-write-sets
     loop-holds
-    into-requires
-    returns
-    add-k
     mul-sets
-    element-write-sets-2
+    slice-write-sets
+    into-requires
+    add-k
+    same-length
+    returns
+    same-length-2
     returns-2
     loop-less
     loop-again
+    same-length-3
     returns-3)

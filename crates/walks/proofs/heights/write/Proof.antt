@@ -6,21 +6,21 @@ use Rattle.walks.proofs.heights.write.Statement.{statement}
 use Rattle.walks.proofs.heights.write.Tie as tie
 
 abbrev Inv-loop : tie.InvT-loop
-Inv-loop sets n out₀ m₀ out m = WriteInv sets n out₀ out m
+Inv-loop sets count n out₀ m₀ out m = WriteInv sets count n out₀ out m
 
 abbrev μ-loop : tie.MeasureT-loop
-μ-loop sets n out₀ m₀ out m = n - m
+μ-loop sets count n out₀ m₀ out m = n - m
 
 loop-holds : tie.Need-loop-holds Inv-loop μ-loop
-loop-holds c = write-start _ _ _
+loop-holds c = write-start _ _ _ _
 
 last-requires : tie.Need-last-requires Inv-loop μ-loop
 last-requires c κs =
-    let p = c .before .before .before .pre in
-    (omega arith, p .1 .0 (c .before .loop .m) (omega arith), p .1 .1)
+    let p = c .before .before .before .before .pre in
+    (omega arith, omega arith, omega arith, omega arith, p .1 (c .before .loop .m) (omega arith))
 
 cast-out : tie.Need-cast-out Inv-loop μ-loop
-cast-out c = omega arith
+cast-out c = omega (arith, c .last .ensures .small)
 
 slice-write-out : tie.Need-slice-write-out Inv-loop μ-loop
 slice-write-out c = omega arith
@@ -33,18 +33,18 @@ loop-less c = omega arith
 
 loop-again : tie.Need-loop-again Inv-loop μ-loop
 loop-again c =
-    let a = c .before .before .before .before .args in
+    let a = c .before .before .before .before .before .args in
     let l = c .before .before .loop in
-    write-step (a .sets .now) (a .n) (a .out .now) (l .out) (l .m) (c .last .result) (omega arith) (omega arith) (c .last .ensures) (l .inv)
+    write-step (a .sets .now) (a .count) (a .n) (a .out .now) (l .out) (l .m) (c .last .result) (omega arith) (omega arith) (c .last .ensures) (l .inv)
 
 same-length : tie.Need-same-length Inv-loop μ-loop
 same-length c = c .before .loop .inv .same-length
 
 returns : tie.Need-returns Inv-loop μ-loop
 returns c =
-    let a = c .before .before .before .args in
+    let a = c .before .before .before .before .args in
     let l = c .before .loop in
-    write-end (a .sets .now) (a .n) (a .out .now) (l .out) (l .m) (omega arith) (l .inv)
+    write-end (a .sets .now) (a .count) (a .n) (a .out .now) (l .out) (l .m) (omega arith) (l .inv)
 
 pub write-spec : {M : Type 1} → statement M
 write-spec =

@@ -1,11 +1,10 @@
--- `waits::clear` meets its contract.
+-- `rows::clear` meets its contract.
 use Prim.Native.Nat.{_-_}
 use mathlib.Core.Path.{refl}
 use native.Mathlib.Omega.{arith}
-use Rattle.rows.proofs.FillingRows.{FillingRows, fill-start, fill-step, fill-each, fill-kept}
-use Rattle.waits.proofs.Waiting.{IsZero}
-use Rattle.waits.proofs.clear.Statement.{statement}
-use Rattle.waits.proofs.clear.Tie as tie
+use Rattle.rows.proofs.FillingRows.{IsZero, FillingRows, fill-start, fill-step, fill-each, fill-kept}
+use Rattle.rows.proofs.clear.Statement.{statement}
+use Rattle.rows.proofs.clear.Tie as tie
 
 abbrev Inv-loop : tie.InvT-loop
 Inv-loop rows₀ n i₀ rows i = FillingRows IsZero n rows₀ rows i
