@@ -11,7 +11,7 @@ use lib.Seq.{ext-getD}
 use Rattle.determined.specs.Determined.{Determines}
 use Rattle.determined.proofs.Equal.{equal}
 use Rattle.rules.proofs.Unique.{counts-one}
-use Rattle.rows.specs.Rows.{Bit}
+use Rattle.rows.specs.Rows.{Bit, AllBits}
 use Rattle.rows.specs.Row.{With, WithoutLowest, Join, Meet, AllBelow, Lowest, Ones}
 use Rattle.rows.specs.Closure.{KeptFrom, Cleared, Closure}
 use Rattle.rows.specs.Joins.{joins}
@@ -76,6 +76,9 @@ relation-one R w n given r s hr hs f g =
 pub words-one : (w n : ℕ) (R : ℕ → ℕ → Type 0) → DeterminesWords w n (λ rows. (i j : ℕ) → Bit (getD rows i 0) j ↔ R i j)
 words-one w n R r s u v f g =
     ext-getD 0 r s (u .long ∙ sym (v .long)) (λ i h. told-one (R i) w (getD r i 0) (getD s i 0) (u .small i) (v .small i) (f i) (g i))
+
+pub all-bits-one : (w n : ℕ) (rows : List ℕ) → DeterminesRow w (AllBits n rows)
+all-bits-one w n rows = told-one _ w
 
 pub clear-one : (n : ℕ) (old : List ℕ) → Determines (Cleared n old)
 clear-one n old r s f g = kept-one n old r s (f .kept) (g .kept) (λ i h. f .none i h ∙ sym (g .none i h))

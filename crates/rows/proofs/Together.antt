@@ -7,7 +7,7 @@ use native.Mathlib.Decide.{ℕ-discrete}
 use native.Mathlib.Omega.{arith}
 use lib.ListN.{getD}
 use lib.Pow.{pow-pos}
-use Rattle.rows.specs.Rows.{Bit}
+use Rattle.rows.specs.Rows.{Bit, AllBits}
 use Rattle.rows.specs.Row.{Join}
 use Rattle.rows.proofs.Bits.{bit-zero}
 
@@ -34,3 +34,10 @@ module _ (w : ℕ) (rows : List ℕ) (n : ℕ) where
       pick : (j : ℕ) (t : (a : ℕ) × (a < i + 1) × Bit (getD rows a 0) j) → Dec (t .0 ≡ i) → Bit all j ⊎ Bit (getD rows i 0) j
       pick j t (yes e) = inr (subst (λ (a : ℕ). Bit (getD rows a 0) j) e (t .2))
       pick j t (no g) = inl (inv .bits j .1 (t .0, omega (arith, t .1), t .2))
+
+  -- all rows are taken in
+  pub together-end : (all i : ℕ) → n ≤ i → Together all i → AllBits n rows all
+  together-end all i h inv j = (
+    λ b. let t = inv .bits j .0 b in (t .0, omega (arith, t .1, inv .at-most), t .2),
+    λ t. inv .bits j .1 (t .0, omega (arith, t .1), t .2),
+  )

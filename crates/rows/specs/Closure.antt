@@ -41,6 +41,10 @@ pub record Round (given : List ℕ) (n k : ℕ) (rows : List ℕ) : Type 0 where
   pub each : (i : ℕ) → i < n → Joined (getD given i 0) (getD given k 0) k (getD rows i 0)
   pub kept : KeptFrom n given rows
 
+-- Each bit of the first n rows is one of `held`.
+abbrev pub HeldBits : ℕ → List ℕ → ℕ → Type 0
+HeldBits n rows held = (i j : ℕ) → i < n → Bit (getD rows i 0) j → Bit held j
+
 -- Of the first n rows, c hold message k.
 pub record Holders (rows : List ℕ) (n k c : ℕ) : Type 0 where
   pub counted : Counts (λ i. Bit (getD rows i 0) k) n c

@@ -1,6 +1,7 @@
 -- A relation given by rows: bit j of row i says that i is in relation to j. Nothing here knows a width.
 use Prim.Native.Nat.{ℕ, _<_, _≤_, _/_, _%_, _^_}
 use mathlib.Core.Path.{_≡_}
+use mathlib.Core.Logic.{_↔_}
 use mathlib.Core.List.{List}
 use lib.ListN.{getD}
 use Rattle.rules.specs.Rules.{Relations}
@@ -22,6 +23,10 @@ pub record Stray (n : ℕ) (rows : List ℕ) : Type 0 where
   pub i-below : i < n
   pub j-above : n ≤ j
   pub bit : Bit (getD rows i 0) j
+
+-- r has the bits of the first n rows, together.
+abbrev pub AllBits : ℕ → List ℕ → ℕ → Type 0
+AllBits n rows r = (j : ℕ) → Bit r j ↔ ((a : ℕ) × (a < n) × Bit (getD rows a 0) j)
 
 -- The relations of n messages that two tables of rows give.
 abbrev pub ofRows : ℕ → List ℕ → List ℕ → Relations

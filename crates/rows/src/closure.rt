@@ -2,7 +2,7 @@
 ghost use mathlib.Core.Path.{_≡_};
 ghost use Prim.Native.Nat.{_<_, _≤_};
 ghost use lib.ListN.{length};
-ghost use Rattle.rows.specs.Closure.{Joined, Counted, Round, Holders, Closure};
+ghost use Rattle.rows.specs.Closure.{Joined, Counted, Round, Holders, HeldBits, Closure};
 ghost use Rattle.rows.specs.Joins.{joins};
 
 // What a turn of one row gives.
@@ -51,16 +51,29 @@ fn round(t: &mut [u64], n: usize, k: usize) -> u64
     count
 }
 
-// The closure of the first n rows, in place: one or more steps. Gives the number of row joins.
+// The round of middle message k, where each bit of the rows is one of `held`: nothing is to do where no row holds k.
+fn round_of(t: &mut [u64], n: usize, k: usize, held: u64) -> u64
+    requires { ⌜ (n ≤ 64) × (k < n) × (n ≤ length (now t)) × HeldBits n (now t) held ⌝ }
+    ensures { λ _. ⌜ Round (now (t .entry)) n k (now (t .exit)) ⌝ }
+    ensures { λ r. ⌜ Holders (now (t .entry)) n k r ⌝ }
+{
+    if !crate::has(held, k) {
+        return 0;
+    }
+    round(t, n, k)
+}
+
+// The closure of the first n rows, in place: one or more steps. Gives the number of row joins. Closing adds no bit that no row had.
 pub fn closure(t: &mut [u64], n: usize) -> usize
     requires { ⌜ (n ≤ 64) × (n ≤ length (now t)) ⌝ }
     ensures { λ _. ⌜ Closure n (now (t .entry)) (now (t .exit)) ⌝ }
     ensures { λ r. ⌜ r ≡ joins n (now (t .entry)) ⌝ }
 {
+    let held = crate::all_bits(t, n);
     let mut joins: usize = 0;
     let mut k: usize = 0;
     while k < n {
-        joins += round(t, n, k) as usize;
+        joins += round_of(t, n, k, held) as usize;
         k += 1;
     }
     joins

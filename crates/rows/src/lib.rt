@@ -6,7 +6,7 @@ ghost use mathlib.Core.Bool.{true};
 ghost use mathlib.Core.Logic.{_↔_};
 ghost use Prim.Native.Nat.{_<_, _≤_};
 ghost use lib.ListN.{length};
-ghost use Rattle.rows.specs.Rows.{Bit};
+ghost use Rattle.rows.specs.Rows.{Bit, AllBits};
 ghost use Rattle.rows.specs.Row.{With, WithoutLowest, Join, Meet, AllBelow, Lowest, Ones};
 ghost use Rattle.rows.specs.Closure.{Cleared};
 
@@ -65,6 +65,20 @@ pub fn lowest(row: u64) -> usize
     ensures { λ r. ⌜ Lowest 64 row r ⌝ }
 {
     u64::trailing_zeros(row) as usize
+}
+
+// The bits of the first n rows, together.
+pub fn all_bits(rows: &[u64], n: usize) -> u64
+    requires { ⌜ (n ≤ 64) × (n ≤ length (now rows)) ⌝ }
+    ensures { λ r. ⌜ AllBits n (now (rows .entry)) r ⌝ }
+{
+    let mut all: u64 = 0;
+    let mut a: usize = 0;
+    while a < n {
+        all = join(all, rows[a]);
+        a += 1;
+    }
+    all
 }
 
 // Clears the first n of the rows lent.

@@ -1,23 +1,9 @@
 // The rows of steps among a protocol's messages: waits steps that are given, and queues steps by rule 5.
 ghost use Prim.Native.Nat.{_<_, _≤_};
-ghost use Rattle.waits.specs.steps.Steps.{mappingOf, StepsRows, StalledRow, WithBehind, QueuesRow};
+ghost use Rattle.waits.specs.steps.Steps.{mappingOf, StepsRows, WithBehind, QueuesRow};
 use rows::WIDTH;
 use rules::Message;
 use rules::Network;
-
-// The messages that something stalls.
-fn stalled_of(stalls: [u64; WIDTH], n: usize) -> u64
-    requires { ⌜ n ≤ 64 ⌝ }
-    ensures { λ r. ⌜ StalledRow stalls n r ⌝ }
-{
-    let mut all = 0u64;
-    let mut a = 0;
-    while a < n {
-        all = rows::join(all, stalls[a]);
-        a += 1;
-    }
-    all
-}
 
 // The row with k, if m queues behind k.
 fn with_behind(row: u64, networks: [Network; WIDTH], stalled: u64, m: Message, k: Message) -> u64
@@ -65,7 +51,8 @@ pub fn steps_of(
     requires { ⌜ n ≤ 64 ⌝ }
     ensures { λ r. ⌜ StepsRows 64 waits stalls (mappingOf networks) n r ⌝ }
 {
-    let stalled = stalled_of(stalls, n);
+    // the messages that something stalls
+    let stalled = rows::all_bits(&stalls, n);
     let mut steps = [0u64; WIDTH];
     let mut i = 0;
     while i < n {

@@ -12,7 +12,15 @@ use Rattle.rows.specs.Rows.{Bit, Rows}
 pub record Into (s : List ℕ) (n set r : ℕ) : Type 0 where
   pub bits : (y : ℕ) → Bit r y ↔ ((y < n) × ((z : ℕ) × Bit (getD s y 0) z × Bit set z))
 
+-- The set has numbers below n only.
+abbrev pub Below : ℕ → ℕ → Type 0
+Below n set = (z : ℕ) → Bit set z → z < n
+
 -- ---- heights
+
+-- The bits of r are the numbers of the set from which a step of w leads into the set.
+pub record Staying (w : List ℕ) (set r : ℕ) : Type 0 where
+  pub bits : (y : ℕ) → Bit r y ↔ (Bit set y × ((z : ℕ) × Bit (getD w y 0) z × Bit set z))
 
 -- A chain of k steps starts at m, which is below n.
 abbrev pub StepsFrom : Rel → ℕ → ℕ → ℕ → Type 0
@@ -43,10 +51,6 @@ pub record Written (sets : List ℕ) (count n : ℕ) (old new : List ℕ) : Type
   pub rest : drop n new ≡ drop n old
 
 -- ---- the shown cycle
-
--- The set has numbers below n only.
-abbrev pub Below : ℕ → ℕ → Type 0
-Below n set = (z : ℕ) → Bit set z → z < n
 
 -- The bits of r are the numbers below n to which a step of s leads from a number of the set.
 pub record After (s : List ℕ) (n set r : ℕ) : Type 0 where

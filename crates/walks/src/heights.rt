@@ -4,7 +4,24 @@ ghost use lib.ListN.{length, getD};
 ghost use Rattle.rows.specs.Rows.{Bit};
 ghost use Rattle.rows.specs.Closure.{KeptFrom, Cleared};
 ghost use Rattle.walks.specs.Walks.{Heights};
-ghost use Rattle.walks.specs.Sets.{Rounds, LastSet, Written};
+ghost use Rattle.walks.specs.Sets.{Below, Staying, Rounds, LastSet, Written};
+
+// The numbers of the set, which are below n, from which a step leads into the set.
+fn staying(w: &[u64], n: usize, set: u64) -> u64
+    requires { ⌜ (n ≤ 64) × (n ≤ length (now w)) × Below n set ⌝ }
+    ensures { λ r. ⌜ Staying (now (w .entry)) set r ⌝ }
+{
+    let mut r: u64 = 0;
+    let mut left: u64 = set;
+    while left != 0 {
+        let y = rows::lowest(left);
+        if rows::meet(w[y], set) != 0 {
+            r = rows::with_bit(r, y);
+        }
+        left = rows::without_lowest(left);
+    }
+    r
+}
 
 // Keeps, round after round, the numbers from which a step leads to one that was kept: at round k a chain of k steps starts at each.
 // Returns the round at which none is left. Where a round loses nobody, or somebody is left at round n, there is a cycle, and the answer is 0.
@@ -17,7 +34,7 @@ fn rounds(w: &[u64], n: usize, sets: &mut [u64]) -> usize
     let mut k: usize = 0;
     while k < n {
         sets[k] = set;
-        let next = crate::into(w, n, set);
+        let next = staying(w, n, set);
         k += 1;
         if next == 0 {
             return k;

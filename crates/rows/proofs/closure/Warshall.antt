@@ -11,10 +11,10 @@ use Rattle.rules.specs.Plan.{Counts, Pairs}
 use Rattle.rules.proofs.Search.{Via, via-plus, via-trans}
 use Rattle.rows.specs.Rows.{Bit}
 use Rattle.rows.specs.Row.{Join}
-use Rattle.rows.specs.Closure.{RowStep, KeptFrom, Closure, Joined, Counted, Round, Holders}
+use Rattle.rows.specs.Closure.{RowStep, KeptFrom, Closure, Joined, Counted, Round, Holders, HeldBits}
 use Rattle.rows.proofs.Bits.{bit?}
 use Rattle.rows.proofs.Counting.{counts-le, pairs-le, counts-below}
-use Rattle.rows.proofs.FillingRows.{FillingRows, fill-start, fill-step, fill-kept}
+use Rattle.rows.proofs.FillingRows.{kept-all, FillingRows, fill-start, fill-step, fill-kept}
 
 -- ---- one row
 
@@ -80,6 +80,26 @@ module _ (given : List ℕ) (n k own : ℕ) where
 
   pub round-count : (rows : List ℕ) (i c : ℕ) → n ≤ i → RoundInv rows i c → Holders given n k c
   round-count rows i c h inv = record { counted = subst (λ (m : ℕ). Counts (Holding given k) m c) (let e : i ≡ n = omega (arith, inv .filling .at-most) in e) (inv .counted) }
+
+-- ---- a round of a message that no row holds
+
+module _ (rows : List ℕ) (n k held : ℕ) (all : HeldBits n rows held) (g : ¬ Bit held k) where
+  none-holds : (i : ℕ) → i < n → ¬ Bit (getD rows i 0) k
+  none-holds i h x = g (all i k h x)
+
+  pub round-none : Round rows n k rows
+  round-none = record { each = λ i h. joined-no (getD rows i 0) (getD rows k 0) k (none-holds i h); kept = kept-all n rows }
+
+  none-counted : (i : ℕ) → i ≤ n → Counts (Holding rows k) i 0
+  none-counted zero h = refl
+  none-counted (suc i) h = inr (none-holds i (omega arith), none-counted i (omega arith))
+
+  pub holders-none : Holders rows n k 0
+  holders-none = record { counted = none-counted n (omega arith) }
+
+-- the rows of a round have no other bits than before
+pub held-more : (rows next : List ℕ) (n k held : ℕ) → k < n → Round rows n k next → HeldBits n rows held → HeldBits n next held
+held-more rows next n k held hk r all i j h x = ⊎-elim (λ y. all i j h y) (λ y. all k j hk (y .1)) (r .each i h .bits j .0 x)
 
 -- ---- one or more steps, of which each starts below n
 

@@ -8,20 +8,12 @@ use native.Mathlib.Decide.{ℕ-discrete}
 use native.Mathlib.Omega.{arith}
 use lib.ListN.{getD, replicate}
 use Rattle.rules.specs.Rules.{Mapping, Queues}
-use Rattle.rows.specs.Rows.{Bit, ofRows}
+use Rattle.rows.specs.Rows.{Bit, AllBits, ofRows}
 use Rattle.rows.specs.Row.{With, Join}
 use Rattle.rows.proofs.Bits.{bit-zero}
 use Rattle.rows.proofs.Told.{told-false}
 use Rattle.rows.proofs.FillingRows.{FillingRows, fill-each, fill-kept}
-use Rattle.rows.proofs.Together.{Together}
-use Rattle.waits.specs.steps.Steps.{StepsRows, StalledRow, Behind, WithBehind, QueuesRow}
-
--- all rows are taken in
-pub stalled-end : (w : ℕ) (stalls : List ℕ) (n all a : ℕ) → n ≤ a → Together w stalls n all a → StalledRow stalls n all
-stalled-end w stalls n all a h inv k = (
-  λ b. let t = inv .bits k .0 b in (t .0, omega (arith, t .1, inv .at-most), t .2),
-  λ t. inv .bits k .1 (t .0, omega (arith, t .1), t .2),
-)
+use Rattle.waits.specs.steps.Steps.{StepsRows, Behind, WithBehind, QueuesRow}
 
 module _ (φ : Mapping) (stalled m : ℕ) where
   behind-added : (k row r : ℕ) → Behind φ stalled m k → With row k r → WithBehind φ stalled m k row r
@@ -77,7 +69,7 @@ steps-row waits φ stalled n m q r f j k = (
   λ x. j .bits k .1 (⊎-elim inl (λ y. inr (f k .1 y)) x),
 )
 
-pub steps-end : (most : ℕ) (waits stalls : List ℕ) (φ : Mapping) (stalled n : ℕ) (rows : List ℕ) (i : ℕ) → n ≤ i → StalledRow stalls n stalled
+pub steps-end : (most : ℕ) (waits stalls : List ℕ) (φ : Mapping) (stalled n : ℕ) (rows : List ℕ) (i : ℕ) → n ≤ i → AllBits n stalls stalled
     → FillingRows (IsSteps waits φ stalled n) n (replicate most 0) rows i → StepsRows most waits stalls φ n rows
 steps-end most waits stalls φ stalled n rows i h s f = record { bits = bits; kept = fill-kept (IsSteps waits φ stalled n) n (replicate most 0) rows i h f }
   where

@@ -21,10 +21,6 @@ pub record StepsRows (most : ℕ) (waits stalls : List ℕ) (φ : Mapping) (n : 
 
 -- ---- what the loops gather
 
--- The bits of r are the messages that something stalls.
-abbrev pub StalledRow : List ℕ → ℕ → ℕ → Type 0
-StalledRow stalls n r = (k : MessageNo) → Bit r k ↔ ((a : MessageNo) × (a < n) × Bit (getD stalls a 0) k)
-
 -- m queues behind k, where the bits of `stalled` are the messages that something stalls.
 pub record Behind (φ : Mapping) (stalled : ℕ) (m k : MessageNo) : Type 0 where
   pub differ : m ≢ k

@@ -1,7 +1,7 @@
 -- Heights: what the loops keep, and that the table of sets gives the heights.
 use Prim.Native.Nat.{ℕ, zero, suc, _+_, _-_, _<_, _≤_}
 use mathlib.Core.Path.{_≡_, refl, sym, subst, ap, _∙_}
-use mathlib.Core.Logic.{_⊎_, inl, inr, _↔_}
+use mathlib.Core.Logic.{_⊎_, inl, inr, ⊎-elim, _≢_, _↔_}
 use mathlib.Core.List.{List, [], _∷_, _++_}
 use native.Mathlib.Decide.{ℕ-discrete, decLt, decLe}
 use native.Mathlib.Omega.{arith}
@@ -16,12 +16,13 @@ use Rattle.rules.proofs.Pigeon.{at-most}
 use Rattle.rules.proofs.Cycle.{distinct-or, Repeat, chain-left, chain-right}
 use Rattle.rules.proofs.Heights.{chain-in}
 use Rattle.rows.specs.Rows.{Bit, Rows}
-use Rattle.rows.specs.Row.{AllBelow}
+use Rattle.rows.specs.Row.{With, Without, Meet, AllBelow}
 use Rattle.rows.specs.Closure.{KeptFrom}
-use Rattle.rows.proofs.Bits.{bit-zero, some-bit}
+use Rattle.rows.proofs.Bits.{bit-zero, some-bit, meet-some, meet-none}
 use Rattle.rows.proofs.FillingRows.{kept-all, kept-store}
 use Rattle.walks.specs.Walks.{Heights}
-use Rattle.walks.specs.Sets.{Into, StepsFrom, Levels, Rounds, LastSet, Written}
+use Rattle.walks.proofs.Sets.{Meets}
+use Rattle.walks.specs.Sets.{Below, Staying, StepsFrom, Levels, Rounds, LastSet, Written}
 
 -- ---- chains of k steps
 
@@ -77,6 +78,56 @@ module _ (R : Rel) (n : ℕ) (within : (a b : ℕ) → R a b → (a < n) × (b <
       go (inl d) = absurd (omega (arith, at-most n (m ∷ t .0) d (chain-in R n within m (t .0) (steps-small n m s) (t .1)), t .2))
       go (inr r) = (r .x, goes-round (r .u) (r .x) (r .v) (r .w) (subst ChainL (r .is) (t .1)))
 
+-- ---- the loop of `staying`
+
+-- the numbers that are not left are decided
+pub record StayingInv (w : List ℕ) (set r left : ℕ) : Type 0 where
+  pub among : (z : ℕ) → Bit left z → Bit set z
+  pub bits : (y : ℕ) → Bit r y ↔ (Bit set y × (¬ Bit left y) × Meets (getD w y 0) set)
+
+pub staying-start : (w : List ℕ) (set : ℕ) → StayingInv w set 0 set
+staying-start w set = record { among = λ z b. b; bits = λ y. (λ b. absurd (bit-zero y b), λ t. absurd (t .1 (t .0))) }
+
+module _ (w : List ℕ) (set r left first next m : ℕ) (low : Bit left first) (cleared : Without left first next) (both : Meet (getD w first 0) set m) (inv : StayingInv w set r left) where
+  fewer : (y : ℕ) → ¬ Bit left y → ¬ Bit next y
+  fewer y g b = g (cleared .bits y .0 b .0)
+
+  gone : ¬ Bit next first
+  gone b = cleared .bits first .0 b .1 refl
+
+  -- a step leads from it into the set
+  pub staying-yes : (v : ℕ) → m ≢ 0 → With r first v → StayingInv w set v next
+  staying-yes v g more = record {
+    among = λ z b. inv .among z (cleared .bits z .0 b .0);
+    bits = λ y. (
+      λ b. ⊎-elim (λ x. let t = inv .bits y .0 x in (t .0, fewer y (t .1), t .2)) (λ e. rw e (inv .among first low, gone, meet-some (getD w first 0) set m both g)) (more .bits y .0 b),
+      λ t. more .bits y .1 (pick y t (ℕ-discrete y first)),
+    );
+  }
+    where
+      pick : (y : ℕ) → Bit set y × (¬ Bit next y) × Meets (getD w y 0) set → Dec (y ≡ first) → Bit r y ⊎ (y ≡ first)
+      pick y t (yes e) = inr e
+      pick y t (no d) = inl (inv .bits y .1 (t .0, λ b. t .1 (cleared .bits y .1 (b, d)), t .2))
+
+  -- none does
+  pub staying-no : m ≡ 0 → StayingInv w set r next
+  staying-no z = record {
+    among = λ y b. inv .among y (cleared .bits y .0 b .0);
+    bits = λ y. (λ b. let t = inv .bits y .0 b in (t .0, fewer y (t .1), t .2), λ t. pick y t (ℕ-discrete y first));
+  }
+    where
+      pick : (y : ℕ) → Bit set y × (¬ Bit next y) × Meets (getD w y 0) set → Dec (y ≡ first) → Bit r y
+      pick y t (yes e) = absurd (meet-none (getD w first 0) set m both z (t .2 .0) (subst (λ (k : ℕ). Bit (getD w k 0) (t .2 .0)) e (t .2 .1)) (t .2 .2))
+      pick y t (no d) = inv .bits y .1 (t .0, λ b. t .1 (cleared .bits y .1 (b, d)), t .2)
+
+pub staying-end : (w : List ℕ) (set r left : ℕ) → left ≡ 0 → StayingInv w set r left → Staying w set r
+staying-end w set r left e inv = record {
+  bits = λ y. (
+    λ b. let t = inv .bits y .0 b in (t .0, t .2),
+    λ t. inv .bits y .1 (t .0, λ b. bit-zero y (subst (λ (k : ℕ). Bit k y) e b), t .1),
+  );
+}
+
 -- ---- the loop of `rounds`
 
 pub rows-within : (n : ℕ) (w : List ℕ) (a b : ℕ) → Rows n w a b → (a < n) × (b < n)
@@ -105,12 +156,16 @@ module _ (w : List ℕ) (n : ℕ) where
     kept = kept-all n sets;
   }
 
-  next-are : (now next k : ℕ) → Are now k → Into w n now next → Are next (suc k)
+  next-are : (now next k : ℕ) → Are now k → Staying w now next → Are next (suc k)
   next-are now next k f i m = (
     λ b. let t = i .bits m .0 b in let s = f (t .1 .0) .0 (t .1 .2) in
-        (t .1 .0, record { i-below = t .0; j-below = steps-small (Rows n w) n (rows-within n w) k (t .1 .0) s; bit = t .1 .1 }, s),
-    λ s. i .bits m .1 (s .1 .i-below, (s .0, s .1 .bit, f (s .0) .1 (s .2))),
+        (t .1 .0, record { i-below = steps-small (Rows n w) n (rows-within n w) k m (f m .0 (t .0)); j-below = steps-small (Rows n w) n (rows-within n w) k (t .1 .0) s; bit = t .1 .1 }, s),
+    λ s. i .bits m .1 (f m .1 (steps-pred (Rows n w) n (rows-within n w) k m s), (s .0, s .1 .bit, f (s .0) .1 (s .2))),
   )
+
+  -- they are below n
+  pub are-below : (now k : ℕ) → Are now k → Below n now
+  are-below now k f m b = steps-small (Rows n w) n (rows-within n w) k m (f m .0 b)
 
   pub all-cycle : (m : ℕ) → Can n m → (a : ℕ) × Plus (Rows n w) a a
   all-cycle m s = long-cycle (Rows n w) n (rows-within n w) m s
@@ -118,7 +173,7 @@ module _ (w : List ℕ) (n : ℕ) where
   cyclic-rounds : (sets : List ℕ) → (a : ℕ) × Plus (Rows n w) a a → Rounds w n sets 0
   cyclic-rounds sets t = record { cyclic = λ _. t; levels = λ d. absurd (d refl) }
 
-  module _ (old sets : List ℕ) (now k next : ℕ) (room : n ≤ length old) (hk : k < n) (inv : RoundsInv old sets now k) (i : Into w n now next) where
+  module _ (old sets : List ℕ) (now k next : ℕ) (room : n ≤ length old) (hk : k < n) (inv : RoundsInv old sets now k) (i : Staying w now next) where
     -- the set of round k is stored
     abbrev sets′ : List ℕ
     sets′ = set sets k now

@@ -15,16 +15,19 @@ Inv-loop networks n waits stalled steps₀ i₀ steps i = FillingRows (IsSteps w
 abbrev μ-loop : tie.MeasureT-loop
 μ-loop networks n waits stalled steps₀ i₀ steps i = n - i
 
-stalled-of-requires : tie.Need-stalled-of-requires Inv-loop μ-loop
-stalled-of-requires c κs = c .pre
+all-bits-requires : tie.Need-all-bits-requires Inv-loop μ-loop
+all-bits-requires c κs = search needs
+
+slice-aggregate-all-bits : tie.Need-slice-aggregate-all-bits Inv-loop μ-loop
+slice-aggregate-all-bits c = search needs
 
 loop-holds : tie.Need-loop-holds Inv-loop μ-loop
 loop-holds c =
-    let a = c .before .args in
-    fill-start (IsSteps (a .t1) (mappingOf (a .networks)) (c .stalled-of .result) (a .n)) (a .n) (replicate 64 0)
+    let a = c .before .before .args in
+    fill-start (IsSteps (a .t1) (mappingOf (a .networks)) (c .all-bits .result) (a .n)) (a .n) (replicate 64 0)
 
-cast-t11 : tie.Need-cast-t11 Inv-loop μ-loop
-cast-t11 c = omega arith
+cast-t14 : tie.Need-cast-t14 Inv-loop μ-loop
+cast-t14 c = omega arith
 
 mul-join : tie.Need-mul-join Inv-loop μ-loop
 mul-join c = omega arith
@@ -33,7 +36,7 @@ array-read-join : tie.Need-array-read-join Inv-loop μ-loop
 array-read-join c = omega arith
 
 queues-row-requires : tie.Need-queues-row-requires Inv-loop μ-loop
-queues-row-requires c κs = (c .before .before .before .pre, omega arith)
+queues-row-requires c κs = (c .before .before .before .before .pre, omega arith)
 
 join-requires : tie.Need-join-requires Inv-loop μ-loop
 join-requires c κs = search needs
@@ -52,9 +55,9 @@ loop-less c = omega arith
 
 loop-again : tie.Need-loop-again Inv-loop μ-loop
 loop-again c =
-    let s = c .before .before .before .before .before in
+    let s = c .before .before .before .before .before .before in
     let a = s .args in
-    let d = c .before .before .before .before .stalled-of .result in
+    let d = c .before .before .before .before .all-bits .result in
     let l = c .before .before .before .loop in
     let q = c .before .queues-row in
     fill-step (IsSteps (a .t1) (mappingOf (a .networks)) d (a .n)) (a .n) (replicate 64 0) (l .steps) (l .i) (c .join .result) (s .pre) (omega arith)
@@ -62,10 +65,10 @@ loop-again c =
 
 returns : tie.Need-returns Inv-loop μ-loop
 returns c =
-    let a = c .before .before .before .args in
-    let d = c .before .before .stalled-of in
+    let a = c .before .before .before .before .args in
+    let d = c .before .before .all-bits in
     let l = c .before .loop in
-    steps-end 64 (a .t1) (a .stalls) (mappingOf (a .networks)) (d .result) (a .n) (l .steps) (l .i) (omega arith) (d .ensures) (l .inv)
+    steps-end 64 (a .t1) (a .t2) (mappingOf (a .networks)) (d .result) (a .n) (l .steps) (l .i) (omega arith) (d .ensures) (l .inv)
 
 pub steps-of-spec : {M : Type 1} → statement M
 steps-of-spec =
@@ -73,9 +76,10 @@ steps-of-spec =
     (tie.spec
     Inv-loop
     μ-loop
-    stalled-of-requires
+    slice-aggregate-all-bits
+    all-bits-requires
     loop-holds
-    cast-t11
+    cast-t14
     mul-join
     array-read-join
     queues-row-requires

@@ -3,7 +3,7 @@ use Prim.Native.Nat.{_-_}
 use mathlib.Core.Path.{_∙_}
 use lib.ListN.{length-set}
 use native.Mathlib.Omega.{arith}
-use Rattle.walks.proofs.heights.Levels.{RoundsInv, rounds-start, rounds-kept, rounds-stuck, rounds-end, rounds-step, rounds-full}
+use Rattle.walks.proofs.heights.Levels.{RoundsInv, are-below, rounds-start, rounds-kept, rounds-stuck, rounds-end, rounds-step, rounds-full}
 use Rattle.walks.proofs.heights.rounds.Statement.{statement}
 use Rattle.walks.proofs.heights.rounds.Tie as tie
 
@@ -25,8 +25,11 @@ mul-sets c = omega arith
 slice-write-sets : tie.Need-slice-write-sets Inv-loop μ-loop
 slice-write-sets c = omega (arith, c .before .loop .inv .kept .long)
 
-into-requires : tie.Need-into-requires Inv-loop μ-loop
-into-requires c κs = omega arith
+staying-requires : tie.Need-staying-requires Inv-loop μ-loop
+staying-requires c κs =
+    let a = c .before .before .before .before .before .args in
+    let l = c .before .loop in
+    (omega arith, omega arith, are-below (a .w .now) (a .n) (l .set) (l .k) (l .inv .now-is))
 
 add-k : tie.Need-add-k Inv-loop μ-loop
 add-k c = omega arith
@@ -38,7 +41,7 @@ returns : tie.Need-returns Inv-loop μ-loop
 returns c =
     let a = c .before .before .before .before .before .before .before .args in
     let l = c .before .before .before .loop in
-    let i = c .before .into in
+    let i = c .before .staying in
     (rounds-end (a .w .now) (a .n) (a .sets .now) (l .sets) (l .set) (l .k) (i .result) (omega arith) (omega arith) (l .inv) (i .ensures) (c .if1 .taken), rounds-kept (a .w .now) (a .n) (a .sets .now) (l .sets) (l .set) (l .k) (i .result) (omega arith) (omega arith) (l .inv) (i .ensures))
 
 same-length-2 : tie.Need-same-length-2 Inv-loop μ-loop
@@ -48,7 +51,7 @@ returns-2 : tie.Need-returns-2 Inv-loop μ-loop
 returns-2 c =
     let a = c .before .before .before .before .before .before .before .before .args in
     let l = c .before .before .before .before .loop in
-    let i = c .before .before .into in
+    let i = c .before .before .staying in
     (rounds-stuck (a .w .now) (a .n) (a .sets .now) (l .sets) (l .set) (l .k) (i .result) (omega arith) (omega arith) (l .inv) (i .ensures) (c .if2 .taken), rounds-kept (a .w .now) (a .n) (a .sets .now) (l .sets) (l .set) (l .k) (i .result) (omega arith) (omega arith) (l .inv) (i .ensures))
 
 loop-less : tie.Need-loop-less Inv-loop μ-loop
@@ -58,7 +61,7 @@ loop-again : tie.Need-loop-again Inv-loop μ-loop
 loop-again c =
     let a = c .before .before .before .before .before .before .before .before .args in
     let l = c .before .before .before .before .loop in
-    let i = c .before .before .into in
+    let i = c .before .before .staying in
     rounds-step (a .w .now) (a .n) (a .sets .now) (l .sets) (l .set) (l .k) (i .result) (omega arith) (omega arith) (l .inv) (i .ensures) (c .before .if1 .left)
 
 same-length-3 : tie.Need-same-length-3 Inv-loop μ-loop
@@ -80,7 +83,7 @@ rounds-spec =
     loop-holds
     mul-sets
     slice-write-sets
-    into-requires
+    staying-requires
     add-k
     same-length
     returns
