@@ -1,8 +1,10 @@
-//! A safe wrapper around the relations call. It names the library: a program
-//! with it is built by `rustc -L target/staticlib`.
+//! A safe wrapper around the relations call in its two forms. It names the
+//! library: a program with it is built by `rustc -L target/staticlib`.
 //!
-//! Slices are all that the library asks for, so nothing is left to the
-//! caller: `relations` takes any count, any tables and any output.
+//! `relations` has rows of 4 bytes and at most 32 messages, `relations64` rows
+//! of 8 bytes and at most 64. Slices are all that the library asks for, so
+//! nothing is left to the caller: both take any count, any tables and any
+//! output.
 
 #![allow(dead_code)]
 
@@ -19,12 +21,34 @@ extern "C" {
         out: *mut u8,
         out_length: usize,
     ) -> u64;
+
+    fn vn_relations64(
+        n: u64,
+        causes: *const u8,
+        causes_length: usize,
+        stalls: *const u8,
+        stalls_length: usize,
+        out: *mut u8,
+        out_length: usize,
+    ) -> u64;
 }
+
+/// Either form as the library exports it.
+type Exported = unsafe extern "C" fn(u64, *const u8, usize, *const u8, usize, *mut u8, usize) -> u64;
+
+/// The most messages of `relations`, and the bytes of its rows.
+pub const MOST_MESSAGES: usize = 32;
+pub const ROW_BYTES: usize = 4;
+
+/// The same of `relations64`.
+pub const MOST_MESSAGES64: usize = 64;
+pub const ROW_BYTES64: usize = 8;
 
 /// Why a call was refused. The numbers are those of the paper.
 #[derive(Clone, Copy, Debug, PartialEq, Eq)]
 pub enum Refusal {
-    /// 17: the count is 0 or above 32, or a table is not 4 bytes a message.
+    /// 17: of `relations`, the count is 0 or above 32, or a table is not 4 bytes
+    /// a message; of `relations64`, 0 or above 64, or not 8 bytes a message.
     Count,
     /// 18: a row has a bit at or above the count.
     Stray,
@@ -100,22 +124,36 @@ fn field(packed: u64, low: u32, width: u32) -> u64 {
     packed >> low & ((1 << width) - 1)
 }
 
-/// The relations call. Row i of a table is 4 bytes, lowest byte first; bit j
-/// says that i causes (stalls) j. Class 3 writes the network of each message,
-/// class 2 the message numbers of the shown cycle. Bytes of `out` after the
-/// answer's length stay, and on a refusal all of them.
+/// The relations call, first form. Row i of a table is 4 bytes, lowest byte
+/// first; bit j says that i causes (stalls) j. Class 3 writes the network of
+/// each message, class 2 the message numbers of the shown cycle. Bytes of `out`
+/// after the answer's length stay, and on a refusal all of them.
 pub fn relations(n: u64, causes: &[u8], stalls: &[u8], out: &mut [u8]) -> Answer {
     Answer::of(relations_packed(n, causes, stalls, out))
 }
 
-/// The same, with the numbers as they come: packed into one.
+/// The second form: row i of a table is 8 bytes. All else is the same.
+pub fn relations64(n: u64, causes: &[u8], stalls: &[u8], out: &mut [u8]) -> Answer {
+    Answer::of(relations64_packed(n, causes, stalls, out))
+}
+
+/// The first form, with the numbers as they come: packed into one.
 pub fn relations_packed(n: u64, causes: &[u8], stalls: &[u8], out: &mut [u8]) -> u64 {
+    packed(vn_relations, n, causes, stalls, out)
+}
+
+/// The second form, in the same way.
+pub fn relations64_packed(n: u64, causes: &[u8], stalls: &[u8], out: &mut [u8]) -> u64 {
+    packed(vn_relations64, n, causes, stalls, out)
+}
+
+fn packed(form: Exported, n: u64, causes: &[u8], stalls: &[u8], out: &mut [u8]) -> u64 {
     // The pointers of slices are good for their lengths, and no `&mut [u8]`
     // shares a byte with another slice. That is all that the library asks.
     // An empty slice has some pointer that is not null, and the library does
     // not follow it.
     unsafe {
-        vn_relations(
+        form(
             n,
             causes.as_ptr(),
             causes.len(),
@@ -128,14 +166,19 @@ pub fn relations_packed(n: u64, causes: &[u8], stalls: &[u8], out: &mut [u8]) ->
 }
 
 /// The most bytes of stack that a call takes, its return address counted.
-pub const MOST_STACK: usize = 1_024;
+pub const MOST_STACK: usize = 1_280;
+pub const MOST_STACK64: usize = 2_048;
 
-/// Where the call stands, for who measures its stack.
+/// Where the calls stand, for who measures their stack.
 pub fn relations_address() -> usize {
     vn_relations as *const () as usize
 }
 
-/// The words of the call, as they go over to the library.
+pub fn relations64_address() -> usize {
+    vn_relations64 as *const () as usize
+}
+
+/// The words of a call of either form, as they go over to the library.
 pub fn relations_words(n: u64, causes: &[u8], stalls: &[u8], out: &mut [u8]) -> [usize; 7] {
     [
         n as usize,
@@ -148,7 +191,16 @@ pub fn relations_words(n: u64, causes: &[u8], stalls: &[u8], out: &mut [u8]) -> 
     ]
 }
 
-/// Sets the pair (from, to) in a table of rows.
+/// Sets the pair (from, to) in a table of `relations`.
 pub fn set_pair(table: &mut [u8], from: usize, to: usize) {
-    table[4 * from + to / 8] |= 1 << (to % 8);
+    set_bit(table, ROW_BYTES, from, to);
+}
+
+/// Sets the pair (from, to) in a table of `relations64`.
+pub fn set_pair64(table: &mut [u8], from: usize, to: usize) {
+    set_bit(table, ROW_BYTES64, from, to);
+}
+
+fn set_bit(table: &mut [u8], row_bytes: usize, from: usize, to: usize) {
+    table[row_bytes * from + to / 8] |= 1 << (to % 8);
 }

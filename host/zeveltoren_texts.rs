@@ -2,7 +2,8 @@
 //! with it is built by `rustc -L target/staticlib`.
 //!
 //! Slices are all that the calls ask for: any texts and any output are
-//! answered or refused.
+//! answered or refused. A mapping's first line is `vn-mapping` 1, with at most
+//! 32 `map` lines and networks up to 31, or `vn-mapping` 2, with 64 and 63.
 
 #![allow(dead_code)]
 
@@ -23,8 +24,14 @@ extern "C" {
     ) -> u64;
 }
 
-/// No listing is longer: 32 steps with names of 24 bytes.
-pub const LONGEST_LISTING: usize = 2_001;
+/// The most messages of a protocol text.
+pub const MOST_MESSAGES: usize = 64;
+
+/// No plan is longer: 64 `map` lines with names of 24 bytes.
+pub const LONGEST_PLAN: usize = 2_078;
+
+/// No judgement is longer, and so no listing: 64 steps with names of 24 bytes.
+pub const LONGEST_LISTING: usize = 3_985;
 
 /// Which of the two texts a refusal speaks of.
 #[derive(Clone, Copy, Debug, PartialEq, Eq)]
@@ -36,7 +43,8 @@ pub enum Paper {
 /// Why there is no listing.
 #[derive(Clone, Copy, Debug, PartialEq, Eq)]
 pub enum Refusal {
-    /// 1 to 15 of the paper. Lines count from 1; 0 is the whole text.
+    /// 1 to 15 of the paper; 9 and 15 of a mapping by the limits of its header.
+    /// Lines count from 1; 0 is the whole text.
     Text { number: u8, paper: Paper, line: usize },
     /// 16: the listing is longer than the output.
     Room { needed: usize },

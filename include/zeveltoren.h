@@ -7,7 +7,7 @@
  * calls nothing but memcpy and memset: a call may be made from any thread at
  * any time.
  *
- * These four calls are the entry points. They ask nothing of the numbers and
+ * These five calls are the entry points. They ask nothing of the numbers and
  * bytes that come in (their contracts have no `requires`; those of functions
  * inside the library do, and every call of one is proved to keep them): any
  * count, any length and any bytes are answered or refused. What a caller in C
@@ -34,30 +34,47 @@
 extern "C" {
 #endif
 
-/* ---- The relations call ---- */
+/*
+ * ---- The relations call, in two forms ----
+ *
+ * vn_relations has rows of 4 bytes and at most 32 messages, vn_relations64 rows
+ * of 8 bytes and at most 64. Nothing else is different: for up to 32 messages
+ * both give the same answer and the same bytes, when each row is made longer by
+ * four bytes 0.
+ */
 
-/* The most messages, and so the most bytes of an answer. */
+/* The most messages of vn_relations, and so the most bytes of its answer. */
 #define VN_MOST_MESSAGES 32
 
-/* Each message has one row of this many bytes in each table. */
+/* Each message has one row of this many bytes in each of its tables. */
 #define VN_ROW_BYTES 4
 
+/* The most bytes of stack that it takes, the return address counted. */
+#define VN_MOST_STACK 1280
+
+/* The same of vn_relations64. */
+#define VN_MOST_MESSAGES64 64
+#define VN_ROW_BYTES64 8
+#define VN_MOST_STACK64 2048
+
 /*
- * Refusal numbers of vn_relations, in the order in which it checks: the
- * first that applies is returned. The numbers 1 to 15 belong to texts and
- * never come from this call.
+ * Refusal numbers of both forms, in the order in which they check: the first
+ * that applies is returned. The numbers 1 to 15 belong to texts and never come
+ * from these calls.
  */
 #define VN_ACCEPTED 0 /* not refused: there is an answer */
-#define VN_COUNT 17   /* n is 0 or above 32, or a table is not 4 * n bytes long */
+#define VN_COUNT 17   /* n is 0 or above 32, or a table is not 4 * n bytes long;
+                         of vn_relations64 above 64, or not 8 * n bytes long */
 #define VN_STRAY 18   /* a row has a bit at place n or above */
 #define VN_ROOM 16    /* the output has fewer than n bytes, in either class */
 
 /*
  * Plans the networks for n messages, numbered from 0 to n - 1.
  *
- * causes and stalls are tables of n rows. Row i is 4 bytes, lowest byte
- * first; bit j of it says that message i causes (stalls) message j. So the
- * pair (i, j) is bit j % 8 of byte 4 * i + j / 8: see vn_set_pair.
+ * causes and stalls are tables of n rows. Row i is 4 bytes, of vn_relations64 8
+ * bytes, lowest byte first; bit j of it says that message i causes (stalls)
+ * message j. So the pair (i, j) is bit j % 8 of byte 4 * i + j / 8, or of byte
+ * 8 * i + j / 8: see vn_set_pair and vn_set_pair64.
  *
  * A message b waits for c when some a stalls b, and c is reached from a by
  * one or more causes steps.
@@ -92,7 +109,8 @@ extern "C" {
  * row that holds k at that moment takes in row k, and that is one join. So
  * there are at most n * n joins. The stalls have no part in it.
  *
- * A call takes at most 1,024 bytes of stack, the return address counted.
+ * A call takes at most 1,280 bytes of stack, one of vn_relations64 at most
+ * 2,048, the return address counted.
  *
  * What the caller owes: each pointer is good for as many bytes as the length
  * after it says, and out shares no byte with the tables. (causes and stalls
@@ -106,8 +124,13 @@ uint64_t vn_relations(uint64_t n,
                       const uint8_t *stalls, size_t stalls_length,
                       uint8_t *out, size_t out_length);
 
-/* Bits 0 to 7, of every call: VN_ACCEPTED, or the refusal; of vn_relations
- * VN_COUNT, VN_STRAY or VN_ROOM. */
+uint64_t vn_relations64(uint64_t n,
+                        const uint8_t *causes, size_t causes_length,
+                        const uint8_t *stalls, size_t stalls_length,
+                        uint8_t *out, size_t out_length);
+
+/* Bits 0 to 7, of every call: VN_ACCEPTED, or the refusal; of the relations
+ * call VN_COUNT, VN_STRAY or VN_ROOM. */
 static inline unsigned vn_refusal(uint64_t answer) { return (unsigned)(answer & 0xff); }
 
 /* Bits 8 to 15: how many bytes of the output were written. */
@@ -134,10 +157,16 @@ static inline unsigned vn_class(uint64_t answer)
     return vn_networks(answer) != 0 ? 3 : 2;
 }
 
-/* Sets the pair (from, to) in a table. Both must be below n. */
+/* Sets the pair (from, to) in a table of vn_relations. Both must be below n. */
 static inline void vn_set_pair(uint8_t *table, unsigned from, unsigned to)
 {
     table[VN_ROW_BYTES * from + to / 8] |= (uint8_t)(1u << to % 8);
+}
+
+/* The same in a table of vn_relations64. */
+static inline void vn_set_pair64(uint8_t *table, unsigned from, unsigned to)
+{
+    table[VN_ROW_BYTES64 * from + to / 8] |= (uint8_t)(1u << to % 8);
 }
 
 /* ---- Plans and judgements of texts ---- */
@@ -145,30 +174,49 @@ static inline void vn_set_pair(uint8_t *table, unsigned from, unsigned to)
 /* The most bytes of a text. */
 #define VN_MOST_BYTES 49152
 
-/* No listing is longer: an output of so many bytes is never refused by 16. */
-#define VN_LONGEST_LISTING 2001
+/* The most messages of a protocol text; there may be 8 events, 64 states over
+ * both controllers and 512 cells. */
+#define VN_MOST_TEXT_MESSAGES 64
+
+/* A mapping text starts with the line `vn-mapping`, tab, `1` or `vn-mapping`,
+ * tab, `2`. The most `map` lines and the highest network, by that number. */
+#define VN_MOST_MAP_LINES_1 32
+#define VN_HIGHEST_NETWORK_1 31
+#define VN_MOST_MAP_LINES_2 64
+#define VN_HIGHEST_NETWORK_2 63
+
+/* No plan, no judgement and no listing is longer: an output of so many bytes is
+ * never refused by 16. */
+#define VN_LONGEST_PLAN 2078
+#define VN_LONGEST_JUDGEMENT 3985
+#define VN_LONGEST_LISTING VN_LONGEST_JUDGEMENT
 
 /*
  * Refusal numbers of texts. The order of the checks: VN_TOO_BIG, VN_NO_END,
  * VN_HEADER, then the first bad line, and within it the smallest number; then
  * VN_NO_MESSAGE and VN_NO_ENTRY; VN_ROOM comes last. A judgement checks the
- * protocol first, then the mapping.
+ * protocol first, then the mapping, of which a line is refused by VN_SHAPE,
+ * VN_FULL, VN_UNMATCHED or VN_NETWORK: a `map` line too many for its header is
+ * VN_FULL, whatever its name and its network.
  */
 #define VN_TOO_BIG 1       /* the text has more than 49,152 bytes; line 0 */
 #define VN_NO_END 2        /* the last line does not end with byte 10 */
-#define VN_HEADER 3        /* the first line is missing or another; line 1 */
+#define VN_HEADER 3        /* the first line is missing or another; line 1. A
+                              mapping's is one of the two above */
 #define VN_SHAPE 4         /* unknown record, count of fields, or fixed word */
 #define VN_ORDER 5         /* a record of an earlier section */
 #define VN_NAME 6          /* a declared name is no name */
 #define VN_UNKNOWN 7       /* a name that is not declared, or not allowed there */
 #define VN_TWICE 8         /* a name that is declared already */
-#define VN_FULL 9          /* one more than a limit */
+#define VN_FULL 9          /* one more than a limit; mapping: the 33rd `map` line
+                              under header 1, the 65th under header 2 */
 #define VN_STALL_STABLE 10 /* a stall in a stable state */
 #define VN_CONFLICT 11     /* two cells at one place, one of them a stall */
 #define VN_NO_MESSAGE 12   /* there is no message; line 0 */
 #define VN_NO_ENTRY 13     /* a message is stalled where no message leads */
 #define VN_UNMATCHED 14    /* mapping: another message than the next, or too few or too many */
-#define VN_NETWORK 15      /* mapping: no network number, or above 31 */
+#define VN_NETWORK 15      /* mapping: no network number, or above 31 under
+                              header 1, above 63 under header 2 */
 
 /* Which text a refusal speaks of. */
 #define VN_PAPER_PROTOCOL 0
