@@ -1,9 +1,16 @@
 //! The chosen items of host/cases.rs: each refusal on both sides of its limit,
 //! and what stands close to it. Refusal numbers in the comments are those of
 //! the paper.
+//!
+//! The items of this file are those from before request C-15, when there were at
+//! most 32 messages. They stay as they are, so that their lines show what that
+//! request changed. host/case_texts/sixty_four.rs has those of the new limits.
+
+mod sixty_four;
 
 use crate::limits;
 use crate::random::{self, Random};
+use crate::second::{Message, Network};
 use crate::Item;
 
 pub fn all() -> Vec<Item> {
@@ -20,6 +27,7 @@ pub fn all() -> Vec<Item> {
     items.extend(networks());
     items.extend(examples());
     items.extend(a_few_random());
+    items.extend(sixty_four::all());
     items
 }
 
@@ -105,7 +113,7 @@ fn openings() -> Vec<Vec<u8>> {
 
 /// 49,152 bytes, accepted and not ended; 49,153 bytes, ended and not.
 fn long_texts() -> Vec<Vec<u8>> {
-    let full = limits::full();
+    let full = limits::full_of(32);
     let mut not_ended = full.clone();
     not_ended.pop();
     not_ended.push(b'x');
@@ -457,8 +465,8 @@ fn mappings() -> Vec<Item> {
         bare(b"\n"),
         bare(b"vn-mapping\t1\nmap\tA\t0\nmap\tB\t1"),
         bare(b"vn-mapping\t1\nmap\tA\t0\nmap\tB\t1\n\n"),
-        bare(&limits::long_mapping(49_152)),
-        bare(&limits::long_mapping(49_153)),
+        bare(&limits::long_mapping(1, 49_152)),
+        bare(&limits::long_mapping(1, 49_153)),
     ];
     // Each wrong line at the place of the first, the second and a third.
     let wrong = [
@@ -479,11 +487,11 @@ fn mappings() -> Vec<Item> {
         items.push(judged(&after_header(&[]), mapping));
         items.push(judged(&with_cells(&["cell\tdir\tW\tA\tstall"]), mapping));
     }
-    // The most messages, with the longest names; one line less and one more.
-    let full = limits::longest_plan();
-    let networks: Vec<crate::second::Network> = (0..33).map(|i| crate::second::Network(i % 32)).collect();
+    // 32 messages, with the longest names; one line less and one more.
+    let full = chain_of_32();
+    let networks: Vec<Network> = (0..33).map(|i| Network(i % 32)).collect();
     for count in [31, 32, 33] {
-        items.push(Item::Judge(full.clone(), limits::mapping_with(&networks[..count])));
+        items.push(Item::Judge(full.clone(), limits::mapping_under(1, &networks[..count])));
     }
     // Messages whose names share a start.
     let alike = after_header(&["message\tAB\treq", "message\tA\treq", "message\tABC\tctl"]);
@@ -494,13 +502,32 @@ fn mappings() -> Vec<Item> {
     items
 }
 
+/// Message i waits for i + 1. All names are long, and each message has a state
+/// that it enters from one more.
+fn chain_of_32() -> Vec<u8> {
+    let name = |number: usize| limits::message_name(Message(number));
+    let state = |number: usize| limits::long_name('S', number);
+    let base = limits::long_name('B', 0);
+    let mut lines = vec![HEADER.to_string()];
+    lines.extend((0..32).map(|i| format!("message\t{}\treq", name(i))));
+    lines.push(format!("state\tcache\t{}\tstable", base));
+    lines.extend((0..32).map(|i| format!("state\tcache\t{}\ttransient", state(i))));
+    lines.extend((0..32).map(|i| format!("cell\tcache\t{}\t{}\tgo\t{}\t{}", base, name(i), state(i), name(i))));
+    lines.extend((0..31).map(|i| format!("cell\tcache\t{}\t{}\tstall", state(i + 1), name(i))));
+    text_of(&lines)
+}
+
+/// The protocol of one message A, which a mapping under a header sends to this
+/// network.
+fn mapped(header: usize, protocol: &[u8], network: &[u8]) -> Item {
+    let first = format!("vn-mapping\t{}\nmap\tA\t", header);
+    Item::Judge(protocol.to_vec(), [first.as_bytes(), network, b"\n"].concat())
+}
+
 /// Network fields, with a protocol of one message.
 fn networks() -> Vec<Item> {
     let protocol = after_header(&["message\tA\treq"]);
-    let with = |field: &[u8]| {
-        let mapping = [b"vn-mapping\t1\nmap\tA\t".as_slice(), field, b"\n"].concat();
-        Item::Judge(protocol.clone(), mapping)
-    };
+    let with = |field: &[u8]| mapped(1, &protocol, field);
     let mut items: Vec<Item> = (0..=255u8).map(|byte| with(&[byte])).collect();
     for first in b"/0123456789:+- " {
         for second in b"/0123456789:+- " {
@@ -519,30 +546,38 @@ fn networks() -> Vec<Item> {
 // Real protocols, and a few random texts
 // ---------------------------------------------------------------------
 
-/// The protocols of examples/, and the mappings of two of them. The others are
-/// judged in host/plan_tests.rs; what crates/cases reads stays as it is.
+/// The first protocols of examples/, and the mappings of two of them. The others
+/// are judged in host/plan_tests.rs.
 fn examples() -> Vec<Item> {
-    let mut names: Vec<String> = std::fs::read_dir("examples")
-        .expect("there are examples")
-        .map(|entry| entry.expect("an entry").file_name().into_string().expect("a name"))
-        .collect();
-    names.sort();
-    let read = |name: &str| std::fs::read(format!("examples/{}", name)).expect("a text");
-    let mut items = Vec::new();
-    for name in names.iter().filter(|name| name.ends_with(".tsv")) {
-        match name.strip_suffix(".mapping.tsv") {
-            None => items.push(Item::Protocol(read(name))),
-            Some(whose) => {
-                let protocol = whose.split('.').next().expect("a name");
-                if !["msi_blocking_cache", "msi_nonblocking_cache"].contains(&protocol) {
-                    continue;
-                }
-                items.push(Item::Judge(read(&format!("{}.tsv", protocol)), read(name)));
-            }
+    let names = [
+        "bell",
+        "chi_fig5",
+        "mosi_nonblocking",
+        "msi_blocking_cache.four",
+        "msi_blocking_cache.one",
+        "msi_blocking_cache.three",
+        "msi_blocking_cache",
+        "msi_blocking_cache.two",
+        "msi_nonblocking_cache.four",
+        "msi_nonblocking_cache.one",
+        "msi_nonblocking_cache.three",
+        "msi_nonblocking_cache",
+        "msi_nonblocking_cache.two",
+        "msi_only_inv_stalls",
+        "protogen_msi_nonstalling",
+    ];
+    names.into_iter().map(example).collect()
+}
+
+/// A protocol of examples/, or with a dot in its name a mapping of one.
+fn example(name: &str) -> Item {
+    let read = |file: String| std::fs::read(format!("examples/{}", file)).expect(&file);
+    match name.split_once('.') {
+        None => Item::Protocol(read(format!("{}.tsv", name))),
+        Some((protocol, _)) => {
+            Item::Judge(read(format!("{}.tsv", protocol)), read(format!("{}.mapping.tsv", name)))
         }
     }
-    assert!(items.len() > 10, "the examples are found");
-    items
 }
 
 /// Short ones, whole and damaged.
@@ -550,10 +585,10 @@ fn a_few_random() -> Vec<Item> {
     let mut random = Random::new(1);
     let mut items = Vec::new();
     while items.len() < 100 {
-        let whole = random::protocol_text(&mut random);
-        let text = if random.chance(1, 2) { random::damage(&mut random, &whole) } else { whole };
+        let whole = random::protocol_text_of(&mut random, 32);
+        let text = if random.chance(1, 2) { random::damage_around(32, &mut random, &whole) } else { whole };
         if text.len() < 800 {
-            let mapping = random::mapping_text(&mut random, &text);
+            let mapping = random::mapping_text_under(1, &mut random, &text);
             items.push(Item::Judge(text, mapping));
         }
     }

@@ -120,9 +120,9 @@ fn accepted_words(protocol: &Protocol) -> String {
 fn rows(relation: &Relation) -> String {
     let mut words = String::new();
     for from in relation.messages() {
-        let row: u32 = (0..relation.count())
+        let row: u64 = (0..relation.count())
             .filter(|to| relation.has(from, Message(*to)))
-            .map(|to| 1u32 << to)
+            .map(|to| 1 << to)
             .sum();
         words.push_str(&format!(" {:x}", row));
     }
@@ -149,7 +149,7 @@ impl Tally {
     /// Each row of the refusal table that a reader can give has to be there.
     fn check(&self) {
         let of_protocol = (1..=13).map(|number| (0, number));
-        let of_mapping = [1, 2, 3, 4, 14, 15].into_iter().map(|number| (1, number));
+        let of_mapping = [1, 2, 3, 4, 9, 14, 15].into_iter().map(|number| (1, number));
         for (paper, number) in of_protocol.chain(of_mapping) {
             assert!(self.refused.contains_key(&(paper, number)), "no refusal {} {}", number, paper);
         }

@@ -14,13 +14,18 @@ pub struct Counts {
     pub bytes: usize,
 }
 
-/// "Most allowed: 49,152 bytes, 32 messages, 8 events, 64 states over both
-/// controllers, 512 cells."
-pub const MOST: Counts = Counts { messages: 32, events: 8, states: 64, cells: 512, bytes: 49_152 };
+/// "Most allowed: 49,152 bytes, [..] 8 events, 64 states over both controllers,
+/// 512 cells", and by request C-15 64 messages.
+pub const MOST: Counts = Counts { messages: 64, events: 8, states: 64, cells: 512, bytes: 49_152 };
 
 /// All limits at once; accepted.
 pub fn full() -> Vec<u8> {
     protocol_text(&MOST)
+}
+
+/// All limits at once, but for the messages.
+pub fn full_of(messages: usize) -> Vec<u8> {
+    protocol_text(&Counts { messages, ..MOST })
 }
 
 /// A text one past a limit, and the refusal that it gets.
@@ -42,10 +47,10 @@ pub fn one_more_of_each() -> Vec<Past> {
     };
     vec![
         past("bytes", Counts { bytes: MOST.bytes + 1, ..MOST }, 1, 0),
-        past("messages", Counts { messages: MOST.messages + 1, ..MOST }, 9, 1 + 33),
-        past("events", Counts { events: MOST.events + 1, ..MOST }, 9, 1 + 32 + 9),
-        past("states", Counts { states: MOST.states + 1, ..MOST }, 9, 1 + 32 + 8 + 65),
-        past("cells", Counts { cells: MOST.cells + 1, ..MOST }, 9, 1 + 32 + 8 + 64 + 513),
+        past("messages", Counts { messages: MOST.messages + 1, ..MOST }, 9, 1 + 65),
+        past("events", Counts { events: MOST.events + 1, ..MOST }, 9, 1 + 64 + 9),
+        past("states", Counts { states: MOST.states + 1, ..MOST }, 9, 1 + 64 + 8 + 65),
+        past("cells", Counts { cells: MOST.cells + 1, ..MOST }, 9, 1 + 64 + 8 + 64 + 513),
     ]
 }
 
@@ -61,7 +66,7 @@ pub fn protocol_text(counts: &Counts) -> Vec<u8> {
 }
 
 /// A name of 24 bytes, the most.
-fn long_name(letter: char, number: usize) -> String {
+pub fn long_name(letter: char, number: usize) -> String {
     format!("{}{:02}-{}", letter, number, "x".repeat(20))
 }
 
@@ -163,38 +168,41 @@ fn sent_list(counts: &Counts, cell: usize, most: usize, extra_left: &mut usize) 
 // Long answers
 // ---------------------------------------------------------------------
 
-/// A protocol with exactly the given waits: a pair (b, c) says that b waits
-/// for c. All names are long. Each message causes itself alone. For each c
-/// there is a state that c enters; whoever waits for c stalls there.
+/// A protocol with exactly the given waits: a pair (b, c) of different messages
+/// says that b waits for c. All names but the event's are long. Each message
+/// causes itself alone and has a state, which it enters by being sent; whoever
+/// waits for it stalls there. So there are as many states as messages, and there
+/// are at least two of them.
 pub fn protocol_with_waits(count: usize, waits: &[(Message, Message)]) -> Vec<u8> {
     let mut text = String::from("vn-protocol\t1\n");
     for message in (0..count).map(Message) {
         text.push_str(&format!("message\t{}\treq\n", message_name(message)));
     }
-    let base = long_name('B', 0);
-    text.push_str(&format!("state\tcache\t{}\tstable\n", base));
+    text.push_str("event\te\n");
     for message in (0..count).map(Message) {
-        text.push_str(&format!("state\tcache\t{}\ttransient\n", state_after(message)));
+        text.push_str(&format!("state\tcache\t{}\ttransient\n", state_of(message)));
     }
     for message in (0..count).map(Message) {
-        let place = format!("cell\tcache\t{}\t{}", base, message_name(message));
-        let (next, sent) = (state_after(message), message_name(message));
-        text.push_str(&format!("{}\tgo\t{}\t{}\n", place, next, sent));
+        let (state, name) = (state_of(message), message_name(message));
+        let before = state_of(Message((message.0 + 1) % count));
+        text.push_str(&format!("cell\tcache\t{}\te\tgo\t{}\t{}\n", before, state, name));
+        text.push_str(&format!("cell\tcache\t{}\t{}\tgo\t{}\t{}\n", state, name, state, name));
     }
     for (b, c) in waits {
-        let (state, trigger) = (state_after(*c), message_name(*b));
+        let (state, trigger) = (state_of(*c), message_name(*b));
         text.push_str(&format!("cell\tcache\t{}\t{}\tstall\n", state, trigger));
     }
     text.into_bytes()
 }
 
 /// The state that a message enters in `protocol_with_waits`.
-fn state_after(message: Message) -> String {
+fn state_of(message: Message) -> String {
     long_name('S', message.0)
 }
 
-pub fn mapping_with(mapping: &[Network]) -> Vec<u8> {
-    let mut text = String::from("vn-mapping\t1\n");
+/// The mapping text under header 1 or 2, with the long names of messages.
+pub fn mapping_under(header: usize, mapping: &[Network]) -> Vec<u8> {
+    let mut text = format!("vn-mapping\t{}\n", header);
     for (place, network) in mapping.iter().enumerate() {
         let name = message_name(Message(place));
         text.push_str(&format!("map\t{}\t{}\n", name, network.0));
@@ -202,32 +210,33 @@ pub fn mapping_with(mapping: &[Network]) -> Vec<u8> {
     text.into_bytes()
 }
 
-/// Class 3 with 32 networks and long names: message i waits for i + 1.
+/// Class 3 with 64 networks and long names: message i waits for i + 1.
 pub fn longest_plan() -> Vec<u8> {
-    let waits: Vec<(Message, Message)> = (0..31).map(|i| (Message(i), Message(i + 1))).collect();
-    protocol_with_waits(32, &waits)
+    let waits: Vec<(Message, Message)> = (0..63).map(|i| (Message(i), Message(i + 1))).collect();
+    protocol_with_waits(64, &waits)
 }
 
-/// Class 2 with a shown cycle of all 32 messages.
+/// Class 2 with a shown cycle of all 64 messages.
 pub fn longest_cycle() -> Vec<u8> {
     let waits: Vec<(Message, Message)> =
-        (0..32).map(|i| (Message(i), Message((i + 1) % 32))).collect();
-    protocol_with_waits(32, &waits)
+        (0..64).map(|i| (Message(i), Message((i + 1) % 64))).collect();
+    protocol_with_waits(64, &waits)
 }
 
-/// A protocol and a mapping, unfit with 32 steps, waits and queues in turn:
-/// i waits for 16 + i, which shares a network with i + 1 and queues behind it.
+/// A protocol and a mapping under header 2, unfit with 64 steps, waits and
+/// queues in turn: i waits for 32 + i, which shares a network with i + 1 and
+/// queues behind it.
 pub fn longest_unfit() -> (Vec<u8>, Vec<u8>) {
-    let waits: Vec<(Message, Message)> = (0..16).map(|i| (Message(i), Message(16 + i))).collect();
-    let mut mapping: Vec<Network> = (0..16).map(Network).collect();
-    mapping.extend((0..16).map(|i| Network((i + 1) % 16)));
-    (protocol_with_waits(32, &waits), mapping_with(&mapping))
+    let waits: Vec<(Message, Message)> = (0..32).map(|i| (Message(i), Message(32 + i))).collect();
+    let mut mapping: Vec<Network> = (0..32).map(Network).collect();
+    mapping.extend((0..32).map(|i| Network((i + 1) % 32)));
+    (protocol_with_waits(64, &waits), mapping_under(2, &mapping))
 }
 
 /// A text of exactly this many bytes that starts as a mapping text. Only its
 /// length is of interest: no accepted mapping is so long.
-pub fn long_mapping(bytes: usize) -> Vec<u8> {
-    let mut text = b"vn-mapping\t1\n".to_vec();
+pub fn long_mapping(header: usize, bytes: usize) -> Vec<u8> {
+    let mut text = format!("vn-mapping\t{}\n", header).into_bytes();
     text.resize(bytes, 10);
     text
 }

@@ -63,27 +63,34 @@ fn whole_pair(random: &mut Random) -> Pair {
     if random.chance(1, 1_000) {
         return pair_at_the_limits(random);
     }
-    let protocol = if random.chance(1, 100) {
-        random::protocol_text(random)
-    } else {
-        random::small_protocol_text(random)
+    let protocol = match random.below(100) {
+        0 => random::protocol_text(random),
+        1..=3 => random::wide_protocol_text(random),
+        _ => random::small_protocol_text(random),
     };
     let mapping = random::mapping_text(random, &protocol);
     Pair { protocol, mapping }
 }
 
-/// All limits at once, the longest listings, and a byte past the most.
+/// All limits at once, the longest listings, a byte past the most, and `map`
+/// lines around the most of each header.
 fn pair_at_the_limits(random: &mut Random) -> Pair {
-    let networks: Vec<Network> = (0..32).map(|_| Network(random.below(32))).collect();
-    let mapping = limits::mapping_with(&networks);
-    let (protocol, mapping) = match random.below(5) {
+    let header = random.between(1, 2);
+    let networks: Vec<Network> = (0..64).map(|_| Network(random.below(32 * header))).collect();
+    let mapping = limits::mapping_under(header, &networks);
+    let (protocol, mapping) = match random.below(6) {
         0 => (limits::full(), mapping),
         1 => (limits::longest_plan(), mapping),
         2 => (limits::longest_cycle(), mapping),
         3 => limits::longest_unfit(),
-        _ => {
+        4 => {
             let bytes = random.between(49_152, 49_153);
-            (limits::longest_plan(), limits::long_mapping(bytes))
+            (limits::longest_plan(), limits::long_mapping(header, bytes))
+        }
+        _ => {
+            let messages = *random.pick(&[31, 32, 33, 40, 63, 64]);
+            let lines = random.between(messages - 1, 64);
+            (limits::full_of(messages), limits::mapping_under(header, &networks[..lines]))
         }
     };
     Pair { protocol, mapping }

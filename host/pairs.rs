@@ -89,7 +89,7 @@ impl Tally {
         for kind in rows.chain(["16", "class-2", "class-3"].map(String::from)) {
             assert!(self.plans.contains_key(&kind), "no plan was {}", kind);
         }
-        for number in [1, 2, 3, 4, 14, 15] {
+        for number in [1, 2, 3, 4, 9, 14, 15] {
             let kind = format!("mapping-{}", number);
             assert!(self.judgements.contains_key(&kind), "no judgement was {}", kind);
         }

@@ -10,10 +10,10 @@ mod random;
 mod second;
 mod zeveltoren_texts;
 
-use second::{Listing, Network};
+use second::{Listing, Message, Network};
 use std::collections::BTreeSet;
 use std::fs;
-use zeveltoren_texts::{Paper, Refusal, LONGEST_LISTING};
+use zeveltoren_texts::{Paper, Refusal, LONGEST_LISTING, LONGEST_PLAN};
 
 /// What host/case_texts.rs makes: a protocol alone, or with a mapping.
 pub enum Item {
@@ -40,9 +40,13 @@ fn bell_and(lines: &[&str]) -> Vec<u8> {
 }
 
 fn bell_mapping(ask: u8, pass: u8, give: u8, done: u8) -> Vec<u8> {
-    let lines = [("Ask", ask), ("Pass", pass), ("Give", give), ("Done", done)];
-    let lines: Vec<String> = lines.iter().map(|(name, to)| format!("map>{}>{}", name, to)).collect();
-    let mut text = vec!["vn-mapping>1"];
+    bell_mapping_under("vn-mapping>1", [ask, pass, give, done])
+}
+
+fn bell_mapping_under(first: &str, networks: [u8; 4]) -> Vec<u8> {
+    let names = ["Ask", "Pass", "Give", "Done"];
+    let lines: Vec<String> = names.iter().zip(networks).map(|(name, to)| format!("map>{}>{}", name, to)).collect();
+    let mut text = vec![first];
     text.extend(lines.iter().map(|line| line.as_str()));
     tabbed(&text)
 }
@@ -130,9 +134,39 @@ fn real_judgements() {
     for name in examples_ending(".judge") {
         let (protocol, _) = name.rsplit_once('.').unwrap();
         let (text, mapping) = (example(protocol, ".tsv"), example(&name, ".mapping.tsv"));
-        assert_eq!(judged(&text, &mapping), Ok(example(&name, ".judge")), "{}", name);
+        let wanted = match example(&name, ".judge") {
+            refused if refused == b"refused\t9\t1\t34\n" => of_mapping(9, 34),
+            listing => Ok(listing),
+        };
+        assert_eq!(judged(&text, &mapping), wanted, "{}", name);
         compare_judgement(&text, &mapping, LONGEST_LISTING);
     }
+}
+
+/// The mapping that a plan prints, as a text under a header.
+fn printed_under(header: usize, listing: &[u8]) -> Vec<u8> {
+    let listing = String::from_utf8(listing.to_vec()).unwrap();
+    let lines = listing.split_inclusive('\n').filter(|line| line.starts_with("map\t"));
+    format!("vn-mapping\t{}\n{}", header, lines.collect::<String>()).into_bytes()
+}
+
+/// It is fit under header 2, and under header 1 where there are at most 32
+/// messages and networks: a chain of waits has as many networks as messages.
+#[test]
+fn printed_mappings() {
+    let fit = Ok(tabbed(&["vn-judge>1", "fit"]));
+    for count in [2, 31, 32, 33, 47, 63, 64] {
+        let waits: Vec<(Message, Message)> = (1..count).map(|i| (Message(i - 1), Message(i))).collect();
+        let protocol = limits::protocol_with_waits(count, &waits);
+        let plan = planned(&protocol).unwrap();
+        assert_eq!(judged(&protocol, &printed_under(2, &plan)), fit, "{}", count);
+        let under_1 = if count <= 32 { fit.clone() } else { of_mapping(15, 2) };
+        assert_eq!(judged(&protocol, &printed_under(1, &plan)), under_1, "{}", count);
+    }
+    let protocol = example("chi_47", ".tsv");
+    let plan = planned(&protocol).unwrap();
+    assert_eq!(judged(&protocol, &printed_under(2, &plan)), fit);
+    assert_eq!(judged(&protocol, &printed_under(1, &plan)), of_mapping(9, 34));
 }
 
 // ---------------------------------------------------------------------
@@ -222,9 +256,54 @@ fn texts_at_the_limits() {
         compare_plan(&past.text, LONGEST_LISTING);
         compare_judgement(&past.text, &bell_mapping(0, 0, 0, 0), LONGEST_LISTING);
     }
-    let networks: Vec<Network> = (0..33).map(|i| Network(i % 32)).collect();
-    for count in [31, 32, 33] {
-        compare_judgement(&full, &limits::mapping_with(&networks[..count]), LONGEST_LISTING);
+    // Fewer lines than messages, as many, and more, under each header.
+    let networks: Vec<Network> = (0..66).map(|i| Network(i % 32)).collect();
+    for messages in [31, 32, 33, 40, 64] {
+        let full = limits::full_of(messages);
+        for lines in [messages - 1, messages, messages + 1, 32, 33, 64, 65] {
+            for header in [1, 2] {
+                compare_judgement(&full, &limits::mapping_under(header, &networks[..lines]), LONGEST_LISTING);
+            }
+        }
+    }
+}
+
+/// A protocol of so many messages and nothing else, and a mapping under a header:
+/// right lines for the first so many, then these.
+fn mapped(messages: usize, header: usize, right: usize, more: &[&str]) -> Result<Listing, Refusal> {
+    let lines = |from: &dyn Fn(usize) -> String, count| (0..count).map(from).collect::<String>();
+    let declared = lines(&|i| format!("message\tm{}\treq\n", i), messages);
+    let maps = lines(&|i| format!("map\tm{}\t0\n", i), right);
+    let protocol = format!("vn-protocol\t1\n{}", declared).into_bytes();
+    let mapping = [format!("vn-mapping\t{}\n{}", header, maps).into_bytes(), tabbed(more)].concat();
+    compare_judgement(&protocol, &mapping, LONGEST_LISTING);
+    judged(&protocol, &mapping)
+}
+
+/// "under header 1 its 33rd `map` line is FULL [..] Header 2's 65th `map` line is
+/// FULL; in a mapping 9 stands between 4 and 14."
+#[test]
+fn map_lines_of_each_header() {
+    for (header, most) in [(1, 32), (2, 64)] {
+        let line = most + 2;
+        assert!(mapped(most, header, most, &[]).is_ok());
+        for more in ["map>m0>0", "map>x>99", "map>>", &format!("map>m{}>0", most)] {
+            assert_eq!(mapped(most, header, most, &[more]), of_mapping(9, line), "{}", more);
+        }
+        for more in ["map>m0>0>", "Map>m0>0", "", &format!("map>m{}", most)] {
+            assert_eq!(mapped(most, header, most, &[more]), of_mapping(4, line), "{}", more);
+        }
+        // Fewer messages than that: the first line too many is another message.
+        assert_eq!(mapped(10, header, 10, &["map>m10>0"]), of_mapping(14, 12));
+        assert_eq!(mapped(10, header, most + 1, &[]), of_mapping(14, 12));
+        assert_eq!(mapped(most - 1, header, most, &[]), of_mapping(14, most + 1));
+        assert_eq!(mapped(most, header, most - 1, &[]), of_mapping(14, most + 1));
+    }
+    for messages in [33, 40, 64] {
+        assert_eq!(mapped(messages, 1, messages, &[]), of_mapping(9, 34));
+        assert_eq!(mapped(messages, 1, 32, &[]), of_mapping(14, 34));
+        assert_eq!(mapped(messages, 1, 32, &["map>x"]), of_mapping(4, 34));
+        assert!(mapped(messages, 2, messages, &[]).is_ok());
     }
 }
 
@@ -232,13 +311,18 @@ fn texts_at_the_limits() {
 fn refusals_of_mappings() {
     let with = |mapping: &[u8]| judged(&bell(), mapping);
     let four = |last: &str| with(&[bell_mapping(0, 0, 0, 0), tabbed(&[last])].concat());
-    let ask = |field: &str| {
-        let text = ["vn-mapping>1", &format!("map>Ask>{}", field), "map>Pass>0", "map>Give>0", "map>Done>0"];
+    let ask = |first: &str, field: &str| {
+        let text = [first, &format!("map>Ask>{}", field), "map>Pass>0", "map>Give>0", "map>Done>0"];
         with(&tabbed(&text))
     };
-    assert!(ask("31").is_ok());
-    for field in ["32", "01", "00", "", "+1", "-1", "100", "4294967296"] {
-        assert_eq!(ask(field), of_mapping(15, 2), "{}", field);
+    for (first, highest, past) in [("vn-mapping>1", "31", "32"), ("vn-mapping>2", "63", "64")] {
+        assert!(ask(first, highest).is_ok());
+        for field in [past, "01", "00", "", "+1", "-1", "100", "4294967296"] {
+            assert_eq!(ask(first, field), of_mapping(15, 2), "{} {}", first, field);
+        }
+    }
+    for first in ["vn-mapping>3", "vn-mapping>0", "vn-mapping>02", "vn-mapping> 2", "vn-mapping>2>", "vn-mapping>12"] {
+        assert_eq!(with(&bell_mapping_under(first, [1, 0, 0, 0])), of_mapping(3, 1), "{}", first);
     }
     assert_eq!(with(b""), of_mapping(3, 1));
     assert_eq!(with(b"vn-mapping\t1"), of_mapping(2, 1));
@@ -247,8 +331,10 @@ fn refusals_of_mappings() {
     assert_eq!(with(&tabbed(&["vn-mapping>1", "map>Pass>0"])), of_mapping(14, 2));
     assert_eq!(four("map>Done>0"), of_mapping(14, 6));
     assert_eq!(four("map>Done"), of_mapping(4, 6));
-    assert_eq!(with(&limits::long_mapping(49_153)), of_mapping(1, 0));
-    assert_eq!(with(&limits::long_mapping(49_152)), of_mapping(4, 2));
+    for header in [1, 2] {
+        assert_eq!(with(&limits::long_mapping(header, 49_153)), of_mapping(1, 0));
+        assert_eq!(with(&limits::long_mapping(header, 49_152)), of_mapping(4, 2));
+    }
     // Of both papers: the protocol first.
     assert_eq!(judged(b"", b""), of_protocol(3, 1));
 }
@@ -270,7 +356,7 @@ fn chosen_texts() {
         }
     }
     let of_protocol = (1..=13).map(|number| (0, number));
-    let of_mapping = [1, 2, 3, 4, 14, 15].into_iter().map(|number| (1, number));
+    let of_mapping = [1, 2, 3, 4, 9, 14, 15].into_iter().map(|number| (1, number));
     assert_eq!(seen, of_protocol.chain(of_mapping).collect());
 }
 
@@ -305,15 +391,21 @@ fn every_room() {
 /// less, and far more than the packed length could say.
 #[test]
 fn room_for_long_listings() {
-    let rooms = |needed: usize| [0, 1, needed / 2, needed - 1, needed, needed + 1, 2_048, 70_000];
-    for text in [limits::longest_plan(), limits::longest_cycle(), limits::full()] {
-        for room in rooms(planned(&text).unwrap().len()) {
+    let rooms = |needed: usize| [0, 1, needed / 2, needed - 1, needed, needed + 1, 4_096, 70_000];
+    let lengths = [limits::longest_plan(), limits::longest_cycle(), limits::full()].map(|text| {
+        let needed = planned(&text).unwrap().len();
+        for room in rooms(needed) {
             compare_plan(&text, room);
         }
-    }
+        needed
+    });
+    // 10 of the 64 networks have one digit.
+    assert_eq!(lengths[..2], [LONGEST_PLAN - 10, 1_624]);
     let (protocol, mapping) = limits::longest_unfit();
     let needed = judged(&protocol, &mapping).unwrap().len();
-    assert_eq!(needed, 1_985);
+    // 32 of the 64 steps are waits, a byte shorter than queues.
+    assert_eq!(needed, LONGEST_LISTING - 32);
+    assert_eq!((LONGEST_PLAN, LONGEST_LISTING), (2_078, 3_985));
     for room in rooms(needed) {
         compare_judgement(&protocol, &mapping, room);
     }

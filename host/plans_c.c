@@ -118,6 +118,8 @@ static void check_listings(void)
     accepted("Bell in one network", bell, all_0,
              "vn-judge\t1\nunfit\nstep\tAsk\twaits\tPass\nstep\tPass\tqueues\tAsk\n");
     accepted("Bell in two networks", bell, two, "vn-judge\t1\nfit\n");
+    accepted("Bell under header 2", bell, "vn-mapping\t2\nmap\tAsk\t63\nmap\tPass\t9\nmap\tGive\t9\nmap\tDone\t9\n",
+             "vn-judge\t1\nfit\n");
 }
 
 static void check_protocol_refusals(void)
@@ -146,14 +148,47 @@ static void check_protocol_refusals(void)
             NULL, VN_NO_ENTRY, 0, 4);
 }
 
-/* One more message than the 32 that there may be. */
+/* So many lines after the first, each with the number of its place. */
+static const char *counted(const char *first, const char *line, unsigned count)
+{
+    static char texts[2][2048];
+    static unsigned turn = 0;
+    char *text = texts[turn++ % 2];
+    unsigned i;
+    strcpy(text, first);
+    for (i = 0; i < count; i++)
+        sprintf(text + strlen(text), line, i);
+    return text;
+}
+
+static const char *protocol_of(unsigned messages)
+{
+    return counted("vn-protocol\t1\n", "message\tm%u\treq\n", messages);
+}
+
+static const char *mapping_1(unsigned lines)
+{
+    return counted("vn-mapping\t1\n", "map\tm%u\t0\n", lines);
+}
+
+static const char *mapping_2(unsigned lines)
+{
+    return counted("vn-mapping\t2\n", "map\tm%u\t0\n", lines);
+}
+
+/* The messages that there may be and one more; the `map` lines of each header
+ * and one more. */
 static void check_full(void)
 {
-    char text[1024] = "vn-protocol\t1\n";
-    int i;
-    for (i = 0; i < 33; i++)
-        sprintf(text + strlen(text), "message\tm%d\treq\n", i);
-    refused("33 messages", text, NULL, VN_FULL, 0, 34);
+    const char *fit = "vn-judge\t1\nfit\n";
+    refused("65 messages", protocol_of(VN_MOST_TEXT_MESSAGES + 1), NULL, VN_FULL, 0, 66);
+    accepted("64 messages, header 2", protocol_of(VN_MOST_TEXT_MESSAGES), mapping_2(VN_MOST_MAP_LINES_2), fit);
+    refused("header 2, line 65", protocol_of(64), mapping_2(VN_MOST_MAP_LINES_2 + 1), VN_FULL, 1, 66);
+    accepted("32 messages, header 1", protocol_of(32), mapping_1(VN_MOST_MAP_LINES_1), fit);
+    refused("header 1, line 33", protocol_of(32), mapping_1(VN_MOST_MAP_LINES_1 + 1), VN_FULL, 1, 34);
+    refused("40 messages, header 1", protocol_of(40), mapping_1(40), VN_FULL, 1, 34);
+    refused("40 messages, 32 lines", protocol_of(40), mapping_1(32), VN_UNMATCHED, 1, 34);
+    refused("10 messages, 11 lines", protocol_of(10), mapping_1(11), VN_UNMATCHED, 1, 12);
 }
 
 static void check_mapping_refusals(void)
@@ -164,16 +199,20 @@ static void check_mapping_refusals(void)
     refused("mapping: another", bell, "vn-mapping\t1\nmap\tPass\t0\n", VN_UNMATCHED, 1, 2);
     refused("mapping: ends early", bell, "vn-mapping\t1\nmap\tAsk\t31\n", VN_UNMATCHED, 1, 3);
     refused("mapping: network 32", bell, "vn-mapping\t1\nmap\tAsk\t32\n", VN_NETWORK, 1, 2);
+    refused("mapping: header 2", bell, "vn-mapping\t2\nmap\tAsk\t63\n", VN_UNMATCHED, 1, 3);
+    refused("mapping: network 64", bell, "vn-mapping\t2\nmap\tAsk\t64\n", VN_NETWORK, 1, 2);
+    refused("mapping: header 3", bell, "vn-mapping\t3\nmap\tAsk\t0\n", VN_HEADER, 1, 1);
     refused("both: the protocol", "", "", VN_HEADER, 0, 1);
 }
 
-/* The other libraries of the header stand in the same program. */
+/* The other calls of the header stand in the same program. */
 static void check_side_by_side(void)
 {
-    uint8_t causes[4] = {0}, stalls[4] = {0}, network[1] = {UNTOUCHED};
+    uint8_t causes[8] = {0}, stalls[8] = {0}, network[2] = {UNTOUCHED, UNTOUCHED};
     int right = vn_check_protocol((const uint8_t *)bell, strlen(bell)) == VN_ACCEPTED;
     right = right && vn_networks(vn_relations(1, causes, 4, stalls, 4, network, 1)) == 1;
-    right = right && network[0] == 0;
+    right = right && vn_networks(vn_relations64(1, causes, 8, stalls, 8, network + 1, 1)) == 1;
+    right = right && network[0] == 0 && network[1] == 0;
     printf("%-24s%s\n", "the other calls", right ? "" : " WRONG");
     if (!right)
         wrong_lines++;

@@ -14,6 +14,7 @@ mod second;
 
 use pair_texts::{Maker, Pair};
 use random::Random;
+use second::Network;
 use std::fs;
 use std::io::{ErrorKind, Write};
 use std::path::{Path, PathBuf};
@@ -42,8 +43,10 @@ fn turn(protocol: &[u8], mapping: &[u8], pieces: usize) -> Turn {
 fn chosen_turns() -> Vec<Turn> {
     let bell = fs::read("examples/bell.tsv").expect("Bell is among the examples");
     let fit = b"vn-mapping\t1\nmap\tAsk\t5\nmap\tPass\t9\nmap\tGive\t9\nmap\tDone\t9\n";
+    let fit_2 = b"vn-mapping\t2\nmap\tAsk\t63\nmap\tPass\t9\nmap\tGive\t9\nmap\tDone\t9\n";
     let mut turns = vec![
         turn(&bell, fit, 1),
+        turn(&bell, fit_2, 1),
         turn(&bell, fit, bell.len()),
         turn(&bell, b"", 3),
         turn(b"", fit, 1),
@@ -56,12 +59,18 @@ fn chosen_turns() -> Vec<Turn> {
     turns.push(turn(&limits::longest_plan(), fit, 7));
     turns.push(turn(&limits::longest_cycle(), fit, 7));
     turns.push(turn(&limits::full(), fit, 9));
+    // The most `map` lines of each header, one more, and too few.
+    let networks: Vec<Network> = (0..65).map(|i| Network(i % 32)).collect();
+    for (messages, header, lines) in [(32, 1, 32), (32, 1, 33), (40, 1, 33), (40, 1, 32), (64, 2, 64), (64, 2, 65)] {
+        let mapping = limits::mapping_under(header, &networks[..lines]);
+        turns.push(turn(&limits::full_of(messages), &mapping, 1));
+    }
     for past in limits::one_more_of_each() {
         turns.push(turn(&past.text, fit, 5));
     }
     for bytes in [49_151, 49_152, 49_153, 49_154, 65_535, 65_536, 65_537, 200_000, 1_000_000] {
-        turns.push(turn(&bell, &limits::long_mapping(bytes), 1));
-        turns.push(turn(&limits::long_mapping(bytes), fit, 11));
+        turns.push(turn(&bell, &limits::long_mapping(1 + bytes % 2, bytes), 1));
+        turns.push(turn(&limits::long_mapping(1, bytes), fit, 11));
     }
     turns
 }

@@ -13,7 +13,7 @@ mod damage;
 
 pub use damage::*;
 
-use crate::second::{Message, Network, State};
+use crate::second::{Form, Message, Network, State, MOST_MESSAGES, SECOND_FORM};
 use std::collections::{BTreeMap, BTreeSet};
 
 pub struct Random {
@@ -72,35 +72,48 @@ impl Random {
 
 /// Densities, as pairs in a row in quarters: from none, over one pair in
 /// every fourth row, to all pairs.
-pub const DENSITIES: [usize; 11] = [0, 1, 2, 3, 4, 6, 8, 14, 30, 64, 128];
+pub const DENSITIES: [usize; 12] = [0, 1, 2, 3, 4, 6, 8, 14, 30, 64, 128, 256];
 
-/// The two tables of the relations call: 4 bytes a message.
+/// The two tables of the relations call, in a form of it.
 #[derive(Clone, Debug)]
 pub struct Tables {
+    pub form: Form,
     pub count: usize,
     pub causes: Vec<u8>,
     pub stalls: Vec<u8>,
 }
 
-/// "Row i is 4 bytes, lowest byte first; bit j says that i causes (stalls) j."
-pub fn set_pair(table: &mut [u8], from: Message, to: Message) {
-    table[4 * from.0 + to.0 / 8] |= 1 << (to.0 % 8);
+/// "Row i is 4 bytes, lowest byte first; bit j says that i causes (stalls) j." In
+/// the second form 8 bytes.
+pub fn set_pair(form: Form, table: &mut [u8], from: Message, to: Message) {
+    table[form.row_bytes * from.0 + to.0 / 8] |= 1 << (to.0 % 8);
+}
+
+impl Tables {
+    pub fn empty(form: Form, count: usize) -> Tables {
+        let empty = vec![0; form.row_bytes * count];
+        Tables { form, count, causes: empty.clone(), stalls: empty }
+    }
+
+    pub fn add_cause(&mut self, from: Message, to: Message) {
+        set_pair(self.form, &mut self.causes, from, to);
+    }
+
+    pub fn add_stall(&mut self, from: Message, to: Message) {
+        set_pair(self.form, &mut self.stalls, from, to);
+    }
 }
 
 fn random_message(random: &mut Random, count: usize) -> Message {
     Message(random.below(count))
 }
 
-pub fn empty_tables(count: usize) -> Tables {
-    Tables { count, causes: vec![0; 4 * count], stalls: vec![0; 4 * count] }
-}
-
-fn random_table(random: &mut Random, count: usize, quarters: usize) -> Vec<u8> {
-    let mut table = vec![0; 4 * count];
+fn random_table(form: Form, random: &mut Random, count: usize, quarters: usize) -> Vec<u8> {
+    let mut table = vec![0; form.row_bytes * count];
     for from in (0..count).map(Message) {
         for to in (0..count).map(Message) {
             if random.chance(quarters, 4 * count) {
-                set_pair(&mut table, from, to);
+                set_pair(form, &mut table, from, to);
             }
         }
     }
@@ -109,14 +122,15 @@ fn random_table(random: &mut Random, count: usize, quarters: usize) -> Vec<u8> {
 
 /// Both tables without any plan, at the given densities.
 pub fn loose_tables(
+    form: Form,
     random: &mut Random,
     count: usize,
     causes_quarters: usize,
     stalls_quarters: usize,
 ) -> Tables {
-    let causes = random_table(random, count, causes_quarters);
-    let stalls = random_table(random, count, stalls_quarters);
-    Tables { count, causes, stalls }
+    let causes = random_table(form, random, count, causes_quarters);
+    let stalls = random_table(form, random, count, stalls_quarters);
+    Tables { form, count, causes, stalls }
 }
 
 fn random_order(random: &mut Random, count: usize) -> Vec<Message> {
@@ -127,18 +141,18 @@ fn random_order(random: &mut Random, count: usize) -> Vec<Message> {
 
 /// Causes go forward in some order and stalls go back or stay. This is always
 /// class 3, often with many networks.
-pub fn layered_tables(random: &mut Random, count: usize) -> Tables {
+pub fn layered_tables(form: Form, random: &mut Random, count: usize) -> Tables {
     let order = random_order(random, count);
-    let mut tables = empty_tables(count);
+    let mut tables = Tables::empty(form, count);
     let causes_quarters = *random.pick(&DENSITIES);
     let stalls_quarters = *random.pick(&DENSITIES);
     for early in 0..count {
         for late in early..count {
             if early != late && random.chance(causes_quarters, 4 * count) {
-                set_pair(&mut tables.causes, order[early], order[late]);
+                tables.add_cause(order[early], order[late]);
             }
             if random.chance(stalls_quarters, 4 * count) {
-                set_pair(&mut tables.stalls, order[late], order[early]);
+                tables.add_stall(order[late], order[early]);
             }
         }
     }
@@ -146,31 +160,31 @@ pub fn layered_tables(random: &mut Random, count: usize) -> Tables {
 }
 
 /// A chain in some order, each stalling itself: as many networks as messages.
-pub fn chain_tables(random: &mut Random, count: usize) -> Tables {
+pub fn chain_tables(form: Form, random: &mut Random, count: usize) -> Tables {
     let order = random_order(random, count);
-    let mut tables = empty_tables(count);
+    let mut tables = Tables::empty(form, count);
     for place in 0..count {
         if place + 1 < count {
-            set_pair(&mut tables.causes, order[place], order[place + 1]);
+            tables.add_cause(order[place], order[place + 1]);
         }
-        set_pair(&mut tables.stalls, order[place], order[place]);
+        tables.add_stall(order[place], order[place]);
     }
     tables
 }
 
 /// One or several rings of waits, and some more pairs: long shown cycles,
 /// often several of one length. Every message causes itself alone.
-pub fn ring_tables(random: &mut Random, count: usize) -> Tables {
-    let mut tables = empty_tables(count);
+pub fn ring_tables(form: Form, random: &mut Random, count: usize) -> Tables {
+    let mut tables = Tables::empty(form, count);
     for message in (0..count).map(Message) {
-        set_pair(&mut tables.causes, message, message);
+        tables.add_cause(message, message);
     }
     for _ in 0..random.between(1, 3) {
         let order = random_order(random, count);
         let length = random.between(1, count);
         for place in 0..length {
             let next = (place + 1) % length;
-            set_pair(&mut tables.stalls, order[next], order[place]);
+            tables.add_stall(order[next], order[place]);
         }
     }
     tables
@@ -180,31 +194,34 @@ fn add_pairs(random: &mut Random, tables: &mut Tables, most: usize) {
     for _ in 0..random.below(most + 1) {
         let from = random_message(random, tables.count);
         let to = random_message(random, tables.count);
-        let table = if random.chance(1, 2) { &mut tables.causes } else { &mut tables.stalls };
-        set_pair(table, from, to);
+        if random.chance(1, 2) {
+            tables.add_cause(from, to);
+        } else {
+            tables.add_stall(from, to);
+        }
     }
 }
 
 /// Tables of some kind and density, right in form.
-pub fn tables(random: &mut Random, count: usize) -> Tables {
+pub fn tables(form: Form, random: &mut Random, count: usize) -> Tables {
     match random.below(8) {
         0..=3 => {
             let causes_quarters = *random.pick(&DENSITIES);
             let stalls_quarters = *random.pick(&DENSITIES);
-            loose_tables(random, count, causes_quarters, stalls_quarters)
+            loose_tables(form, random, count, causes_quarters, stalls_quarters)
         }
         4 | 5 => {
-            let mut tables = layered_tables(random, count);
+            let mut tables = layered_tables(form, random, count);
             add_pairs(random, &mut tables, 2);
             tables
         }
         6 => {
-            let mut tables = chain_tables(random, count);
+            let mut tables = chain_tables(form, random, count);
             add_pairs(random, &mut tables, 3);
             tables
         }
         _ => {
-            let mut tables = ring_tables(random, count);
+            let mut tables = ring_tables(form, random, count);
             add_pairs(random, &mut tables, 2);
             tables
         }
@@ -215,17 +232,37 @@ pub fn tables(random: &mut Random, count: usize) -> Tables {
 /// bit or room.
 #[derive(Clone, Debug)]
 pub struct Call {
+    pub form: Form,
     pub n: u64,
     pub causes: Vec<u8>,
     pub stalls: Vec<u8>,
     pub room: usize,
 }
 
-pub fn call(random: &mut Random, count: usize) -> Call {
-    let tables = tables(random, count);
+impl Call {
+    pub fn of(tables: Tables, room: usize) -> Call {
+        let Tables { form, count, causes, stalls } = tables;
+        Call { form, n: count as u64, causes, stalls, room }
+    }
+
+    /// The call of the second form with each row made longer by four bytes 0.
+    pub fn widened(&self) -> Call {
+        let (causes, stalls) = (widened(&self.causes), widened(&self.stalls));
+        Call { form: SECOND_FORM, n: self.n, causes, stalls, room: self.room }
+    }
+}
+
+/// Each row of 4 bytes made longer by four bytes 0; a part of a row stays as it is.
+fn widened(table: &[u8]) -> Vec<u8> {
+    let rows = table.chunks_exact(4);
+    let part = rows.remainder().to_vec();
+    rows.flat_map(|row| [row, &[0; 4]].concat()).chain(part).collect()
+}
+
+pub fn call(form: Form, random: &mut Random, count: usize) -> Call {
+    let tables = tables(form, random, count);
     let room = count + random.below(4);
-    let Tables { causes, stalls, .. } = tables;
-    let mut call = Call { n: count as u64, causes, stalls, room };
+    let mut call = Call::of(tables, room);
     while random.chance(1, 6) {
         damage_call(random, &mut call);
     }
@@ -233,10 +270,11 @@ pub fn call(random: &mut Random, count: usize) -> Call {
 }
 
 fn damage_call(random: &mut Random, call: &mut Call) {
+    let most = call.form.most_messages as u64;
     let pick_causes = random.chance(1, 2);
     let table = if pick_causes { &mut call.causes } else { &mut call.stalls };
     match random.below(8) {
-        0 => call.n = *random.pick(&[0, 1, 31, 32, 33, 64, 255, 256, 257, u64::MAX]),
+        0 => call.n = *random.pick(&[0, 1, most - 1, most, most + 1, 2 * most, 255, 256, 257, u64::MAX]),
         1 => call.n = call.n.wrapping_add(1),
         2 => call.n = call.n.wrapping_sub(1),
         3 => table.push(0),
@@ -248,7 +286,7 @@ fn damage_call(random: &mut Random, call: &mut Call) {
             table[place] |= 1 << random.below(8);
         }
         6 => call.room = call.room.saturating_sub(random.between(1, 5)),
-        _ => call.room = random.below(40),
+        _ => call.room = random.below(most as usize + 8),
     }
 }
 
@@ -313,9 +351,9 @@ impl Draft {
     }
 }
 
-fn draft_names(random: &mut Random) -> Draft {
+fn draft_names(random: &mut Random, most_messages: usize) -> Draft {
     if random.chance(1, 10) {
-        draft_up_to(random, 32, 8, 64)
+        draft_up_to(random, most_messages, 8, 64)
     } else {
         draft_up_to(random, 8, 3, 10)
     }
@@ -417,7 +455,12 @@ fn draft_stall(random: &mut Random, draft: &mut Draft) {
 
 /// A protocol text that is accepted most of the time.
 pub fn protocol_text(random: &mut Random) -> Vec<u8> {
-    let draft = draft_names(random);
+    protocol_text_of(random, MOST_MESSAGES)
+}
+
+/// The same with at most so many messages.
+pub fn protocol_text_of(random: &mut Random, most_messages: usize) -> Vec<u8> {
+    let draft = draft_names(random, most_messages);
     let most_goes = if random.chance(1, 20) { 300 } else { 30 };
     let goes = random.below(most_goes);
     let stalls = random.below(60);
@@ -431,6 +474,14 @@ pub fn small_protocol_text(random: &mut Random) -> Vec<u8> {
     let draft = draft_up_to(random, most, 3, most);
     let goes = random.between(most / 2, 2 * most);
     let stalls = random.below(3 * most);
+    drafted_text(random, draft, goes, stalls)
+}
+
+/// The same with up to 64 messages, for mappings of many lines.
+pub fn wide_protocol_text(random: &mut Random) -> Vec<u8> {
+    let draft = draft_up_to(random, MOST_MESSAGES, 2, 8);
+    let goes = random.below(40);
+    let stalls = random.below(60);
     drafted_text(random, draft, goes, stalls)
 }
 
@@ -473,10 +524,17 @@ pub fn message_names(protocol_text: &[u8]) -> Vec<Vec<u8>> {
         .collect()
 }
 
-/// A right mapping text for a protocol, with few or many networks.
+/// A mapping text for a protocol, with few or many networks, under either
+/// header. It is right but where header 1 has too many messages.
 pub fn mapping_text(random: &mut Random, protocol_text: &[u8]) -> Vec<u8> {
-    let networks = *random.pick(&[1, 2, 3, 4, 6, 12, 32]);
-    let mut text = b"vn-mapping\t1\n".to_vec();
+    let header = if random.chance(1, 3) { 1 } else { 2 };
+    mapping_text_under(header, random, protocol_text)
+}
+
+/// The same under header 1 or 2.
+pub fn mapping_text_under(header: usize, random: &mut Random, protocol_text: &[u8]) -> Vec<u8> {
+    let networks = *random.pick(&[1, 2, 3, 4, 6, 12, 32 * header]);
+    let mut text = format!("vn-mapping\t{}\n", header).into_bytes();
     for name in message_names(protocol_text) {
         text.extend(b"map\t");
         text.extend(name);

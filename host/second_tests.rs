@@ -118,22 +118,10 @@ fn refused(number: u64, paper: u64, line: u64) -> Result<Listing, Refusal> {
     Err(Refusal { number, paper, line })
 }
 
-/// A protocol with long names and exactly these waits: a pair (b, c) of
-/// different messages says that b waits for c. Each message causes itself alone
-/// and has a state, which it enters by being sent; whoever waits for it stalls
-/// there. So there are as many states as messages.
+/// A protocol with long names and exactly these waits of different messages.
 fn protocol_with_waits(count: usize, waits: &[(usize, usize)]) -> Vec<u8> {
-    let name = |number: usize| limits::message_name(Message(number));
-    let mut lines = vec!["vn-protocol>1".to_string()];
-    lines.extend((0..count).map(|c| format!("message>{}>ctl", name(c))));
-    lines.push("event>e".to_string());
-    lines.extend((0..count).map(|c| format!("state>cache>s{}>transient", c)));
-    for c in 0..count {
-        lines.push(format!("cell>cache>s{}>e>go>s{}>{}", (c + 1) % count, c, name(c)));
-        lines.push(format!("cell>cache>s{}>{}>go>s{}>{}", c, name(c), c, name(c)));
-    }
-    lines.extend(waits.iter().map(|(b, c)| format!("cell>cache>s{}>{}>stall", c, name(*b))));
-    tabbed(&lines.iter().map(|line| line.as_str()).collect::<Vec<&str>>())
+    let waits: Vec<(Message, Message)> = waits.iter().map(|(b, c)| (Message(*b), Message(*c))).collect();
+    limits::protocol_with_waits(count, &waits)
 }
 
 // ---------------------------------------------------------------------
@@ -266,7 +254,7 @@ fn plain_is_fast() {
     for seed in 0..20_000 {
         let mut random = Random::new(seed);
         let count = random.between(1, 32);
-        let call = random::call(&mut random, count);
+        let call = random::call(FIRST_FORM, &mut random, count);
         let plain = relations(call.n, &call.causes, &call.stalls, call.room);
         let quick = fast(call.n, &call.causes, &call.stalls, call.room);
         assert_eq!(plain, quick, "seed {}", seed);
@@ -304,7 +292,7 @@ fn brute_force_is_least_count() {
     for seed in 0..20_000 {
         let mut random = Random::new(seed);
         let count = random.between(1, 5);
-        let tables = random::tables(&mut random, count);
+        let tables = random::tables(FIRST_FORM, &mut random, count);
         let causes = read_table(count, &tables.causes).unwrap();
         let stalls = read_table(count, &tables.stalls).unwrap();
         check_counts(&causes, &stalls, seed);
@@ -388,7 +376,7 @@ fn shown_cycles_by_brute_force() {
     for seed in 0..5_000 {
         let mut random = Random::new(seed);
         let count = random.between(1, 6);
-        let tables = random::tables(&mut random, count);
+        let tables = random::tables(FIRST_FORM, &mut random, count);
         let stalls = read_table(count, &tables.stalls).unwrap();
         let waits = waits_of(&read_table(count, &tables.causes).unwrap(), &stalls);
         let mapping = random::mapping(&mut random, count);

@@ -36,11 +36,21 @@ fn seed() -> u64 {
     seed
 }
 
+/// A protocol of so many messages, and nothing else.
+fn messages_alone(count: usize) -> Vec<u8> {
+    let lines = (0..count).map(|number| format!("message\tm{}\treq\n", number));
+    format!("vn-protocol\t1\n{}", lines.collect::<String>()).into_bytes()
+}
+
 #[test]
 fn texts_at_the_limits() {
-    let full = limits::full();
-    assert_eq!(full.len(), 49_152);
-    assert_eq!(zeveltoren_texts::check_protocol(&full), (0, 0));
+    for messages in [32, 33, 47, 63, 64] {
+        let full = limits::full_of(messages);
+        assert_eq!(full.len(), 49_152);
+        assert_eq!(zeveltoren_texts::check_protocol(&full), (0, 0));
+    }
+    assert_eq!(zeveltoren_texts::check_protocol(&messages_alone(64)), (0, 0));
+    assert_eq!(zeveltoren_texts::check_protocol(&messages_alone(65)), (9, 66));
     for past in limits::one_more_of_each() {
         compare(&past.text);
     }
@@ -58,7 +68,7 @@ fn short_texts() {
 #[test]
 fn random_texts() {
     let mut random = Random::new(seed());
-    let mut accepted = 0;
+    let (mut accepted, mut many) = (0, 0);
     for _ in 0..600 {
         let mut text = random::protocol_text(&mut random);
         for _ in 0..random.below(3) {
@@ -66,7 +76,8 @@ fn random_texts() {
         }
         compare(&text);
         accepted += usize::from(wanted(&text).0 == 0);
+        many += usize::from(random::message_names(&text).len() > 32);
     }
-    println!("{} of 600 accepted", accepted);
-    assert!(accepted > 60 && accepted < 540);
+    println!("{} of 600 accepted, {} with more than 32 messages", accepted, many);
+    assert!(accepted > 60 && accepted < 540 && many > 5);
 }

@@ -24,16 +24,23 @@ fn join_all(lines: &[Vec<Vec<u8>>]) -> Vec<u8> {
 }
 
 /// One to three changes: bytes, fields and lines changed, dropped, doubled,
-/// swapped or cut; rarely the text is grown past a limit.
+/// swapped or cut; rarely the text is grown past a limit, which for messages and
+/// networks is that of either mapping header.
 pub fn damage(random: &mut Random, text: &[u8]) -> Vec<u8> {
+    let most = *random.pick(&[32, 64]);
+    damage_around(most, random, text)
+}
+
+/// The same around so many messages and networks.
+pub fn damage_around(most: usize, random: &mut Random, text: &[u8]) -> Vec<u8> {
     let mut damaged = text.to_vec();
     for _ in 0..random.between(1, 3) {
         damaged = match random.below(16) {
             0..=4 => damage_bytes(random, damaged),
-            5..=9 => damage_fields(random, &damaged),
+            5..=9 => damage_fields(most, random, &damaged),
             10..=13 => damage_lines(random, &damaged),
             14 => cut(random, damaged),
-            _ => grow(random, &damaged),
+            _ => grow(most, random, &damaged),
         };
     }
     damaged
@@ -72,12 +79,17 @@ fn random_field(random: &mut Random, lines: &[Vec<Vec<u8>>]) -> Vec<u8> {
     random.pick(line).clone()
 }
 
-const WORDS: [&str; 21] = [
-    "message", "event", "state", "cell", "map", "cache", "dir", "stall", "go", "stable",
-    "transient", "req", "ctl", "", "0", "00", "01", "31", "32", "+1", "vn-protocol",
-];
+/// Words of texts, and fields that are or could be network numbers.
+fn word(most: usize, random: &mut Random) -> Vec<u8> {
+    let (last, past) = ((most - 1).to_string(), most.to_string());
+    let words = [
+        "message", "event", "state", "cell", "map", "cache", "dir", "stall", "go", "stable",
+        "transient", "req", "ctl", "", "0", "00", "01", &last, &past, "+1", "vn-protocol",
+    ];
+    random.pick(&words).as_bytes().to_vec()
+}
 
-fn damage_fields(random: &mut Random, text: &[u8]) -> Vec<u8> {
+fn damage_fields(most: usize, random: &mut Random, text: &[u8]) -> Vec<u8> {
     let mut lines = split_all(text);
     if lines.is_empty() {
         return text.to_vec();
@@ -101,7 +113,7 @@ fn damage_fields(random: &mut Random, text: &[u8]) -> Vec<u8> {
             lines[line].push(field);
         }
         4 => lines[line][place] = random_field(random, &lines),
-        5 => lines[line][place] = random.pick(&WORDS).as_bytes().to_vec(),
+        5 => lines[line][place] = word(most, random),
         _ => lines[line][place] = field_of_a_like_line(random, &lines, line, place),
     }
     join_all(&lines)
@@ -169,9 +181,9 @@ fn cut(random: &mut Random, mut text: Vec<u8>) -> Vec<u8> {
     text
 }
 
-/// Past a limit: names, messages, events, states, cells, sent messages,
-/// networks, bytes.
-fn grow(random: &mut Random, text: &[u8]) -> Vec<u8> {
+/// Past a limit: names, messages or `map` lines, events, states, cells, sent
+/// messages, networks, bytes.
+fn grow(most: usize, random: &mut Random, text: &[u8]) -> Vec<u8> {
     let mut lines = split_all(text);
     if lines.is_empty() {
         return text.to_vec();
@@ -180,7 +192,8 @@ fn grow(random: &mut Random, text: &[u8]) -> Vec<u8> {
     let place = random.below(lines[line].len());
     match random.below(8) {
         0 => lines[line][place] = vec![b'n'; random.between(24, 25)],
-        1 => repeat_record(random, &mut lines, b"message", 34),
+        1 if lines[0][0] == b"vn-mapping" => repeat_last(random, &mut lines),
+        1 => repeat_record(random, &mut lines, b"message", most + 2),
         2 => repeat_record(random, &mut lines, b"event", 10),
         3 => repeat_record(random, &mut lines, b"state", 66),
         4 => repeat_record(random, &mut lines, b"cell", 514),
@@ -188,7 +201,7 @@ fn grow(random: &mut Random, text: &[u8]) -> Vec<u8> {
             let field = lines[line][place].clone();
             lines[line].extend(vec![field; random.between(6, 9)]);
         }
-        6 => lines[line][place] = random.between(30, 33).to_string().into_bytes(),
+        6 => lines[line][place] = random.between(most - 2, most + 1).to_string().into_bytes(),
         _ => return lengthen(random, text),
     }
     join_all(&lines)
@@ -211,6 +224,12 @@ fn repeat_record(random: &mut Random, lines: &mut Vec<Vec<Vec<u8>>>, record: &[u
         }
         lines.insert(first + 1, copy);
     }
+}
+
+/// One to three more of the last line.
+fn repeat_last(random: &mut Random, lines: &mut Vec<Vec<Vec<u8>>>) {
+    let last = lines[lines.len() - 1].clone();
+    lines.extend(vec![last; random.between(1, 3)]);
 }
 
 /// Fills up to about the most bytes, with ended lines.

@@ -13,11 +13,6 @@ pub fn table(row_bytes: usize, relation: &Relation) -> Vec<u8> {
     table
 }
 
-/// Each row, of 4 bytes, widened by four zero bytes.
-fn widened(table: &[u8]) -> Vec<u8> {
-    table.chunks(4).flat_map(|row| [row, &[0; 4]].concat()).collect()
-}
-
 /// The second form, plain and fast, which have to agree.
 fn second_form(n: u64, causes: &[u8], stalls: &[u8], room: usize) -> Answer {
     let plain = relations64(n, causes, stalls, room);
@@ -95,7 +90,8 @@ pub fn random_relations(random: &mut Random, count: usize) -> (Relation, Relatio
 fn random_call(random: &mut Random, count: usize) -> random::Call {
     let (causes, stalls) = random_relations(random, count);
     let (causes, stalls) = (table(8, &causes), table(8, &stalls));
-    let mut call = random::Call { n: count as u64, causes, stalls, room: count + random.below(3) };
+    let room = count + random.below(3);
+    let mut call = random::Call { form: SECOND_FORM, n: count as u64, causes, stalls, room };
     let table = if random.chance(1, 2) { &mut call.causes } else { &mut call.stalls };
     match random.below(20) {
         0 => call.n = *random.pick(&[0, 1, 32, 33, 63, 64, 65, 256, u64::MAX]),
@@ -138,11 +134,11 @@ fn forms_agree() {
     for seed in 0..20_000 {
         let mut random = Random::new(seed);
         let count = random.between(1, 32);
-        let call = random::call(&mut random, count);
+        let call = random::call(FIRST_FORM, &mut random, count);
         let first = relations(call.n, &call.causes, &call.stalls, call.room);
         if call.n <= 32 {
-            let (causes, stalls) = (widened(&call.causes), widened(&call.stalls));
-            assert_eq!(second_form(call.n, &causes, &stalls, call.room), first, "seed {}", seed);
+            let wide = call.widened();
+            assert_eq!(second_form(wide.n, &wide.causes, &wide.stalls, wide.room), first, "seed {}", seed);
         } else {
             assert_eq!(first.number, COUNT, "seed {}", seed);
         }

@@ -15,12 +15,8 @@ fn mapping_of(header: usize, count: usize) -> Vec<u8> {
 }
 
 /// A mapping with the long names of limits.rs.
-pub fn long_names_under(header: usize, networks: &[usize]) -> Vec<u8> {
-    let mut text = format!("vn-mapping\t{}\n", header);
-    for (number, network) in networks.iter().enumerate() {
-        text.push_str(&format!("map\t{}\t{}\n", limits::message_name(Message(number)), network));
-    }
-    text.into()
+pub fn long_names_under(header: usize, numbers: &[usize]) -> Vec<u8> {
+    limits::mapping_under(header, &networks(numbers))
 }
 
 /// Number and line of the refusal of a protocol with so many messages and a

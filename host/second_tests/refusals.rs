@@ -242,8 +242,10 @@ fn mapping_refusals() {
     check(b"", HEADER, 1);
     check(&bell(), HEADER, 1);
     check(b"vn-mapping\t1", NO_END, 1);
-    check(&limits::long_mapping(49_153), TOO_BIG, 0);
-    check(&limits::long_mapping(49_152), SHAPE, 2);
+    for header in [1, 2] {
+        check(&limits::long_mapping(header, 49_153), TOO_BIG, 0);
+        check(&limits::long_mapping(header, 49_152), SHAPE, 2);
+    }
     check(&tabbed(&lines[..1]), UNMATCHED, 2);
     check(&tabbed(&lines[..4]), UNMATCHED, 5);
     let one_line = |line: &str| tabbed(&["vn-mapping>1", line]);
