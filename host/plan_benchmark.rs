@@ -34,17 +34,20 @@ pub struct Task {
 
 fn tasks() -> Vec<Task> {
     let task = |name, protocol, mapping| Task { name, protocol, mapping };
-    let each_its_own: Vec<Network> = (0..32).map(Network).collect();
-    let two: Vec<Network> = (0..32).map(|message| Network(message / 16)).collect();
+    let each_its_own: Vec<Network> = (0..64).map(Network).collect();
+    let two: Vec<Network> = (0..64).map(|message| Network(message / 32)).collect();
     let (unfit, hung) = limits::longest_unfit();
     vec![
         task("plan, all limits", limits::full(), None),
-        task("judge, all limits, 32 networks", limits::full(), Some(limits::mapping_with(&each_its_own))),
-        task("judge, all limits, 2 networks", limits::full(), Some(limits::mapping_with(&two))),
-        task("plan, 32 networks", limits::longest_plan(), None),
-        task("plan, cycle of 32", limits::longest_cycle(), None),
-        task("judge, fit", limits::longest_plan(), Some(limits::mapping_with(&each_its_own))),
-        task("judge, 32 steps", unfit, Some(hung)),
+        task("judge, all limits, 64 networks", limits::full(), Some(limits::mapping_under(2, &each_its_own))),
+        task("judge, all limits, 2 networks", limits::full(), Some(limits::mapping_under(2, &two))),
+        task("plan, 64 networks", limits::longest_plan(), None),
+        task("plan, cycle of 64", limits::longest_cycle(), None),
+        task("judge, fit", limits::longest_plan(), Some(limits::mapping_under(2, &each_its_own))),
+        task("judge, 64 steps", unfit, Some(hung)),
+        // The text of before request C-15.
+        task("plan, all limits, 32 messages", limits::full_of(32), None),
+        task("judge, all limits, 32 messages", limits::full_of(32), Some(limits::mapping_under(1, &each_its_own[..32]))),
     ]
 }
 

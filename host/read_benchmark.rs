@@ -41,7 +41,7 @@ fn library(text: &[u8]) -> u64 {
 
 fn plain(text: &[u8]) -> u64 {
     match second::read_protocol(text) {
-        Ok(protocol) => protocol.message_names().len() as u64 - 32,
+        Ok(protocol) => protocol.message_names().len() as u64 - 64,
         Err(refusal) => refusal.number,
     }
 }
