@@ -272,7 +272,7 @@ fn stack_used(function: usize, tables: &Tables) -> usize {
 /// The most stack over all inputs of a form. host/stack_tests.rs has more, and
 /// fails above the limit.
 fn print_stack(of: &Measured) {
-    let [mut library, mut fast] = [0, 0];
+    let (mut library, mut fast) = (0, 0);
     for count in of.counts {
         for kind in &KINDS {
             for tables in &inputs(of.form, kind, *count) {
