@@ -5,10 +5,10 @@ use Rattle.random_relations.proofs.add_ring.Statement.{statement}
 use Rattle.random_relations.proofs.add_ring.Tie as tie
 
 abbrev Inv-loop : tie.InvT-loop
-Inv-loop causes₀ stalls₀ n message₀ causes stalls message = message ≤ n
+Inv-loop causes₀ stalls₀ size n message₀ causes stalls message = message ≤ n
 
 abbrev μ-loop : tie.MeasureT-loop
-μ-loop causes₀ stalls₀ n message₀ causes stalls message = n - message
+μ-loop causes₀ stalls₀ size n message₀ causes stalls message = n - message
 
 loop-holds : tie.Need-loop-holds Inv-loop μ-loop
 loop-holds c = search needs

@@ -9,13 +9,13 @@ array-share-prefix-causes : tie.Need-array-share-prefix-causes
 array-share-prefix-causes c = search needs
 
 slice-aggregate-report : tie.Need-slice-aggregate-report
-slice-aggregate-report c = let a = c .before .args in sym (length-take-le (a .given .causes) (a .t1) (search needs))
+slice-aggregate-report c = let a = c .before .args in sym (length-take-le (a .given .causes) (a .t2) (search needs))
 
 array-share-prefix-stalls : tie.Need-array-share-prefix-stalls
 array-share-prefix-stalls c = search needs
 
 slice-aggregate-report-2 : tie.Need-slice-aggregate-report-2
-slice-aggregate-report-2 c = let a = c .before .before .args in sym (length-take-le (a .given .stalls) (a .t2) (search needs))
+slice-aggregate-report-2 c = let a = c .before .before .args in sym (length-take-le (a .given .stalls) (a .t3) (search needs))
 
 array-borrow-prefix-out : tie.Need-array-borrow-prefix-out
 array-borrow-prefix-out c = search needs

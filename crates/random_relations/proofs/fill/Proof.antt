@@ -4,10 +4,10 @@ use Rattle.random_relations.proofs.fill.Statement.{statement}
 use Rattle.random_relations.proofs.fill.Tie as tie
 
 abbrev Inv-loop : tie.InvT-loop
-Inv-loop table₀ n bound way state here₀ left₀ table here left = Unit {0}
+Inv-loop table₀ size n bound way state here₀ left₀ table here left = Unit {0}
 
 abbrev μ-loop : tie.MeasureT-loop
-μ-loop table₀ n bound way state here₀ left₀ table here left = left
+μ-loop table₀ size n bound way state here₀ left₀ table here left = left
 
 draw-requires : tie.Need-draw-requires Inv-loop μ-loop
 draw-requires c κs = search needs

@@ -5,13 +5,22 @@ use Rattle.random_relations.proofs.main.Statement.{statement}
 use Rattle.random_relations.proofs.main.Tie as tie
 
 abbrev Inv-loop : tie.InvT-loop
-Inv-loop state₀ t₀ state t = t ≤ 2400
+Inv-loop state₀ t₀ state t = t ≤ 1280
 
 abbrev μ-loop : tie.MeasureT-loop
-μ-loop state₀ t₀ state t = 2400 - t
+μ-loop state₀ t₀ state t = 1280 - t
+
+first-turns-requires : tie.Need-first-turns-requires Inv-loop μ-loop
+first-turns-requires c κs = search needs
 
 loop-holds : tie.Need-loop-holds Inv-loop μ-loop
 loop-holds c = search needs
+
+second-form-requires : tie.Need-second-form-requires Inv-loop μ-loop
+second-form-requires c κs = search needs
+
+add-turn : tie.Need-add-turn Inv-loop μ-loop
+add-turn c = search needs
 
 turn-requires : tie.Need-turn-requires Inv-loop μ-loop
 turn-requires c κs = search needs
@@ -31,4 +40,4 @@ returns c = search needs
 pub main-spec : {M : Type 1} → statement M
 main-spec =
     tie.close
-    (tie.spec Inv-loop μ-loop loop-holds turn-requires add-t loop-less loop-again returns)
+    (tie.spec Inv-loop μ-loop first-turns-requires loop-holds second-form-requires add-turn turn-requires add-t loop-less loop-again returns)
