@@ -1,7 +1,6 @@
 -- "Network is decimal, 0 to 31, no leading zero"; by C-15 "network numbers to 63" under the second header. There are `most` networks: 32 or 64.
 use mathlib.Core.Bool.{Bool, cond}
 use lib.Dec.{ltb}
-use Rattle.rules.specs.declared.Network.{Network}
 use Rattle.rules.specs.Numbers.{asNetwork}
 use Rattle.mapping.specs.declared.networks.FoundNetwork.{FoundNetwork}
 use Rattle.mapping.specs.declared.networks.FoundNetwork.the-variants.{Is as IsNetwork, Nothing as NoNetwork}

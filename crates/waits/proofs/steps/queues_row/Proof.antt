@@ -1,5 +1,5 @@
 -- `waits::steps::queues_row` meets its contract.
-use Prim.Native.Nat.{_-_, _≤_, _<_, _^_}
+use Prim.Native.Nat.{_-_, _≤_}
 use native.Mathlib.Omega.{arith}
 use Rattle.waits.specs.steps.Steps.{mappingOf}
 use Rattle.waits.proofs.steps.Queueing.{Queueing, queueing-none, queueing-more, queueing-all}
