@@ -31,9 +31,9 @@ pub fn relations(n: usize, causes: &[u8], stalls: &[u8], out: &mut [u8]) -> Rela
 pub fn relations64(n: usize, causes: &[u8], stalls: &[u8], out: &mut [u8]) -> RelationsAnswer
     ensures { λ r. ⌜ RelationsCall 8 64 n (now (causes .entry)) (now (stalls .entry)) (now (out .entry)) (now (out .exit)) r ⌝ }
 {
-    let number = crate::checks::first_check(WIDE_ROW_BYTES, WIDTH, n, causes, stalls, out.len());
-    if number != 0 {
-        return crate::checks::refusal(number, n);
+    let refused = crate::checks::first_check(WIDE_ROW_BYTES, WIDTH, n, causes, stalls, out.len());
+    if refused != 0 {
+        return crate::checks::refusal(refused, n);
     }
     let mut c: [u64; WIDTH] = [0; WIDTH];
     let mut s: [u64; WIDTH] = [0; WIDTH];
