@@ -3,7 +3,7 @@ ghost use Prim.Native.Nat.{_*_, _≤_};
 ghost use mathlib.Core.Path.{_≡_};
 ghost use lib.ListN.{length};
 ghost use Rattle.rows.specs.Rows.{Stray};
-ghost use Rattle.waits.specs.Waiting.{Tidy};
+ghost use Rattle.rows.specs.Gather.{Tidy};
 ghost use Rattle.relations.specs.row_bytes.RowBytes.{RowSize, rowsOfBytes};
 ghost use Rattle.relations.specs.plans.Plans.{RelationsPlanned, WaitsPlan};
 use crate::answer::RelationsAnswer;

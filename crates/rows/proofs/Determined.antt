@@ -13,6 +13,7 @@ use Rattle.determined.proofs.Equal.{equal}
 use Rattle.rules.proofs.Unique.{counts-one}
 use Rattle.rows.specs.Rows.{Bit, AllBits}
 use Rattle.rows.specs.Row.{With, WithoutLowest, Join, Meet, AllBelow, Lowest, Ones}
+use Rattle.rows.specs.Gather.{Gathered}
 use Rattle.rows.specs.Closure.{KeptFrom, Cleared, Closure}
 use Rattle.rows.specs.Joins.{joins}
 use Rattle.rows.specs.Determined.{DeterminesRow, DeterminesRows, DeterminesWords}
@@ -89,3 +90,6 @@ closure-one w n given r s hr hs f g = relation-one _ w n given r s hr hs (f .rea
 -- and the number of row joins in closing them
 pub joins-one : (n : ℕ) (given : List ℕ) → Determines (λ (r : ℕ). r ≡ joins n given)
 joins-one n given = equal _
+
+pub gather-one : (w n : ℕ) (given sets old : List ℕ) → DeterminesRows w (Gathered n given sets old)
+gather-one w n given sets old r s hr hs f g = relation-one _ w n old r s hr hs (f .bits, f .kept) (g .bits, g .kept)

@@ -1,5 +1,6 @@
 // One row of bits, and rows cleared. Rows know only bit places: what a place stands for is for the caller to say.
 pub mod closure;
+pub mod gather;
 
 ghost use mathlib.Core.Path.{_≡_};
 ghost use mathlib.Core.Bool.{true};

@@ -1,6 +1,6 @@
 -- The fourteen cases of the proved table, by one computed test.
 use Prim.Native.Nat.{ℕ, _<_}
-use mathlib.Core.Path.{_≡_, refl, sym, subst, ap}
+use mathlib.Core.Path.{_≡_, refl, sym, subst, ap, _∙_}
 use mathlib.Core.Logic.{inl, inr, ⊎-elim}
 use mathlib.Core.Bool.{Bool, true, false, not, _&&_, _||_}
 use mathlib.Core.List.{List, [], _∷_, _++_}
@@ -8,12 +8,13 @@ use native.Mathlib.Omega.{arith}
 use lib.Dec.{T, eqb, ltb}
 use lib.ListN.{length}
 use Rattle.rules.specs.Lists.{_∈_, Some}
-use Rattle.rules.specs.Rules.{Relations, Mapping, Waits, Step, Trigger, message, event, Outcome, stall, go, Cell, Causes, Enters, Carrier, Stalls}
+use Rattle.rules.specs.Rules.{Relations, Mapping, Waits, Step, Trigger, message, event, Outcome, stall, go, Cell, Causes, Enters, Carrier, LeadsInto, Taken, Staller, Stalls, StallsDirectly}
 use Rattle.rules.specs.Plan.{Word, waits, queues, Says}
 use Rattle.rules.specs.Promises.{Accepted}
-use Rattle.rule_cases.specs.Cases.{Given, relations, tables, relationsOf, AmongPairs, CaseAnswer, networks, cycle, fit, unfit, mapOf, Worded, WordsAlong, Right, Case, AllRight, cases, moreCases}
+use Rattle.rule_cases.specs.Cases.{Given, relations, tables, directly, listed, relationsOf, AmongPairs, CaseAnswer, networks, cycle, fit, unfit, mapOf, Worded, WordsAlong, Right, Case, AllRight, cases, moreCases}
 use Rattle.rules.proofs.Decided.{waits-within, step-within}
-use Rattle.rules.proofs.Entry.{some-get, some-map}
+use Rattle.rules.proofs.Entry.{some-get, some-map, span, GoesInto, goes-within, EntersTaken, CarriesTaken, some-staller, staller-some}
+use Rattle.rules.proofs.Stricter.{old-pairs-remain}
 use Rattle.rules.proofs.Given.{InRange, Every, tables-accepted}
 use Rattle.rule_cases.proofs.Tests.{Tells, and-tells, or-tells, not-tells, eqb-tells, ltb-tells, inb, in-tells, at, rounds}
 use Rattle.rule_cases.proofs.Model.{rowsOf, rows-tell, closure-tell, waitsRows, waits-tell, planb, plan-sound, stepb, step-tell, fitb, fit-sound, shownb, shown-sound, both}
@@ -127,14 +128,14 @@ enter-tells a s d =
     (and-tells (goesTo (d .outcome) s) (not (eqb (d .state) s)) (goesTo-tells (d .outcome) s) (not-tells (eqb (d .state) s) (eqb-tells (d .state) s)))
     (carrier-tells (d .trigger) (d .sent) a)
 
-abbrev stallb : List Cell → ℕ → ℕ → Cell → Bool
-stallb cells a b c = (triggered (c .trigger) b && not (goes (c .outcome))) && someb (enterb a (c .state)) cells
+abbrev directb : List Cell → ℕ → ℕ → Cell → Bool
+directb cells a b c = (triggered (c .trigger) b && not (goes (c .outcome))) && someb (enterb a (c .state)) cells
 
-abbrev stallsb : List Cell → ℕ → ℕ → Bool
-stallsb cells a b = someb (stallb cells a b) cells
+abbrev directsb : List Cell → ℕ → ℕ → Bool
+directsb cells a b = someb (directb cells a b) cells
 
-stalls-tell : (cells : List Cell) (a b : ℕ) → Tells (stallsb cells a b) (Stalls cells a b)
-stalls-tell cells a b = (there, back)
+directs-tell : (cells : List Cell) (a b : ℕ) → Tells (directsb cells a b) (StallsDirectly cells a b)
+directs-tell cells a b = (there, back)
   where
     Carries : ℕ → Type 0
     Carries s = Some (λ d. Enters d s × Carrier (d .trigger) (d .sent) a) cells
@@ -142,14 +143,92 @@ stalls-tell cells a b = (there, back)
     One : Cell → Type 0
     One c = ((c .trigger ≡ message b) × (c .outcome ≡ stall)) × Carries (c .state)
 
-    r : Tells (stallsb cells a b) (Some One cells)
-    r = some-tells One (stallb cells a b) (λ c. and-tells (triggered (c .trigger) b && not (goes (c .outcome))) (someb (enterb a (c .state)) cells) (and-tells (triggered (c .trigger) b) (not (goes (c .outcome))) (triggered-tells (c .trigger) b) (stays-tells (c .outcome))) (some-tells (λ d. Enters d (c .state) × Carrier (d .trigger) (d .sent) a) (enterb a (c .state)) (enter-tells a (c .state)) cells)) cells
+    r : Tells (directsb cells a b) (Some One cells)
+    r = some-tells One (directb cells a b) (λ c. and-tells (triggered (c .trigger) b && not (goes (c .outcome))) (someb (enterb a (c .state)) cells) (and-tells (triggered (c .trigger) b) (not (goes (c .outcome))) (triggered-tells (c .trigger) b) (stays-tells (c .outcome))) (some-tells (λ d. Enters d (c .state) × Carrier (d .trigger) (d .sent) a) (enterb a (c .state)) (enter-tells a (c .state)) cells)) cells
 
-    there : T (stallsb cells a b) → Stalls cells a b
+    there : T (directsb cells a b) → StallsDirectly cells a b
     there t = let q = some-get One cells (r .0 t) in (q .0 .state, q .2 (λ c. (c .state ≡ q .0 .state) × (c .trigger ≡ message b) × (c .outcome ≡ stall)) (refl, q .1 .0 .0, q .1 .0 .1), q .1 .1)
 
-    back : Stalls cells a b → T (stallsb cells a b)
+    back : StallsDirectly cells a b → T (directsb cells a b)
     back u = r .1 (some-map (λ c. (c .state ≡ u .0) × (c .trigger ≡ message b) × (c .outcome ≡ stall)) One (λ c q. ((q .1, q .2), subst Carries (sym (q .0)) (u .2))) cells (u .1))
+
+-- ---- the states that are taken
+
+module _ (transient : ℕ → Bool) (cells : List Cell) where
+  abbrev leadb : ℕ → ℕ → Cell → Bool
+  leadb r s c = eqb (c .state) r && goesTo (c .outcome) s
+
+  abbrev leadsb : ℕ → ℕ → Bool
+  leadsb r s = transient r && someb (leadb r s) cells
+
+  true-tells : (b : Bool) → Tells b (b ≡ true)
+  true-tells true = (λ t. refl, λ e. tt)
+  true-tells false = (λ t. absurd t, λ e. ⊥-of (apart e))
+    where
+      apart : false ≡ true → _≡_ {A = ℕ} 0 1
+      apart e = cc
+
+  leads-tell : (r s : ℕ) → Tells (leadsb r s) (LeadsInto transient cells r s)
+  leads-tell r s =
+      and-tells (transient r) (someb (leadb r s) cells) (true-tells (transient r))
+      (some-tells (GoesInto r s) (leadb r s) (λ c. and-tells (eqb (c .state) r) (goesTo (c .outcome) s) (eqb-tells (c .state) r) (goesTo-tells (c .outcome) s)) cells)
+
+  abbrev closedRows : List (List Bool)
+  closedRows = rounds (span cells) (rowsOf (span cells) leadsb)
+
+  abbrev takenb : ℕ → ℕ → Bool
+  takenb s r = eqb r s || at closedRows r s
+
+  taken-tells : (s r : ℕ) → Tells (takenb s r) (Taken transient cells s r)
+  taken-tells s r =
+      or-tells (eqb r s) (at closedRows r s) (eqb-tells r s)
+      (closure-tell (span cells) (LeadsInto transient cells) (λ a b t. goes-within a b cells (t .1)) leadsb (λ a b _ _. leads-tell a b) r s)
+
+  -- the cell, whose outcome it is, enters a taken state
+  abbrev intob : ℕ → ℕ → Outcome → Bool
+  intob s own stall = false
+  intob s own (go r) = takenb s r && not (eqb own r)
+
+  into-tells : (s : ℕ) (d : Cell) → Tells (intob s (d .state) (d .outcome)) (EntersTaken transient cells s d)
+  into-tells s d = pick (d .outcome) refl
+    where
+      pick : (o : Outcome) → d .outcome ≡ o → Tells (intob s (d .state) o) (EntersTaken transient cells s d)
+      pick stall q = (λ t. absurd t, λ t. ⊥-of (no-stall (t .0) (sym q ∙ t .2 .0)))
+      pick (go x) q =
+          let r = and-tells (takenb s x) (not (eqb (d .state) x)) (taken-tells s x) (not-tells (eqb (d .state) x) (eqb-tells (d .state) x)) in (
+            λ t. let u = r .0 t in (x, u .0, (q, u .1)),
+            λ t. let e = same-go x (t .0) (sym q ∙ t .2 .0) in
+                r .1 (subst (Taken transient cells s) (sym e) (t .1), λ f. t .2 .1 (f ∙ e)),
+          )
+
+  abbrev carryb : ℕ → ℕ → Cell → Bool
+  carryb a s d = intob s (d .state) (d .outcome) && carrierb (d .trigger) (d .sent) a
+
+  carry-tells : (a s : ℕ) → Tells (someb (carryb a s) cells) (Staller transient cells a s)
+  carry-tells a s =
+      let r = some-tells (CarriesTaken transient cells a s) (carryb a s) (λ d. and-tells (intob s (d .state) (d .outcome)) (carrierb (d .trigger) (d .sent) a) (into-tells s d) (carrier-tells (d .trigger) (d .sent) a)) cells in
+      (λ t. some-staller transient cells a s (r .0 t), λ t. r .1 (staller-some transient cells a s t))
+
+  abbrev stallb : ℕ → ℕ → Cell → Bool
+  stallb a b c = (triggered (c .trigger) b && not (goes (c .outcome))) && someb (carryb a (c .state)) cells
+
+  abbrev stallsb : ℕ → ℕ → Bool
+  stallsb a b = someb (stallb a b) cells
+
+  stalls-tell : (a b : ℕ) → Tells (stallsb a b) (Stalls transient cells a b)
+  stalls-tell a b = (there, back)
+    where
+      One : Cell → Type 0
+      One c = ((c .trigger ≡ message b) × (c .outcome ≡ stall)) × Staller transient cells a (c .state)
+
+      r : Tells (stallsb a b) (Some One cells)
+      r = some-tells One (stallb a b) (λ c. and-tells (triggered (c .trigger) b && not (goes (c .outcome))) (someb (carryb a (c .state)) cells) (and-tells (triggered (c .trigger) b) (not (goes (c .outcome))) (triggered-tells (c .trigger) b) (stays-tells (c .outcome))) (carry-tells a (c .state))) cells
+
+      there : T (stallsb a b) → Stalls transient cells a b
+      there t = let q = some-get One cells (r .0 t) in (q .0 .state, q .2 (λ c. (c .state ≡ q .0 .state) × (c .trigger ≡ message b) × (c .outcome ≡ stall)) (refl, q .1 .0 .0, q .1 .0 .1), q .1 .1)
+
+      back : Stalls transient cells a b → T (stallsb a b)
+      back u = r .1 (some-map (λ c. (c .state ≡ u .0) × (c .trigger ≡ message b) × (c .outcome ≡ stall)) One (λ c q. ((q .1, q .2), subst (Staller transient cells a) (sym (q .0)) (u .2))) cells (u .1))
 
 abbrev sentb : ℕ → List ℕ → Bool
 sentb n [] = true
@@ -183,23 +262,28 @@ range-every n (c ∷ cells) t =
 
 abbrev cb : Given → ℕ → ℕ → Bool
 cb (relations n causes stalls) = listedb causes
-cb (tables n cells) = causesb cells
+cb (tables n transient cells) = causesb cells
+cb (directly n cells) = causesb cells
 
 abbrev sb : Given → ℕ → ℕ → Bool
 sb (relations n causes stalls) = listedb stalls
-sb (tables n cells) = stallsb cells
+sb (tables n transient cells) = stallsb (listed transient) cells
+sb (directly n cells) = directsb cells
 
 abbrev okb : Given → Bool
 okb (relations n causes stalls) = ltb 0 n && (smallb n causes && smallb n stalls)
-okb (tables n cells) = ltb 0 n && rangeb n cells
+okb (tables n transient cells) = ltb 0 n && rangeb n cells
+okb (directly n cells) = ltb 0 n && rangeb n cells
 
 cb-tells : (g : Given) (a b : ℕ) → Tells (cb g a b) (relationsOf g .causes a b)
 cb-tells (relations n causes stalls) = listed-tells causes
-cb-tells (tables n cells) = causes-tell cells
+cb-tells (tables n transient cells) = causes-tell cells
+cb-tells (directly n cells) = causes-tell cells
 
 sb-tells : (g : Given) (a b : ℕ) → Tells (sb g a b) (relationsOf g .stalls a b)
 sb-tells (relations n causes stalls) = listed-tells stalls
-sb-tells (tables n cells) = stalls-tell cells
+sb-tells (tables n transient cells) = stalls-tell (listed transient) cells
+sb-tells (directly n cells) = directs-tell cells
 
 accepted : (g : Given) → T (okb g) → Accepted (relationsOf g)
 accepted (relations n causes stalls) t =
@@ -212,7 +296,17 @@ accepted (relations n causes stalls) t =
       causes? = λ a b. dec-of (listedb causes a b) (listed-tells causes a b);
       stalls? = λ a b. dec-of (listedb stalls a b) (listed-tells stalls a b);
     }
-accepted (tables n cells) t = let u = both (ltb 0 n) (rangeb n cells) t in tables-accepted n cells (ltb-tells 0 n .0 (u .0)) (range-every n cells (u .1))
+accepted (tables n transient cells) t = let u = both (ltb 0 n) (rangeb n cells) t in tables-accepted n (listed transient) cells (ltb-tells 0 n .0 (u .0)) (range-every n cells (u .1))
+accepted (directly n cells) t =
+    let u = both (ltb 0 n) (rangeb n cells) t in
+    let acc = tables-accepted n (listed []) cells (ltb-tells 0 n .0 (u .0)) (range-every n cells (u .1)) in
+    record {
+      some-message = acc .some-message;
+      causes-messages = acc .causes-messages;
+      stalls-messages = λ a b q. acc .stalls-messages a b (old-pairs-remain (listed []) cells n .more-stalls a b q);
+      causes? = acc .causes?;
+      stalls? = λ a b. dec-of (directsb cells a b) (directs-tell cells a b);
+    }
 
 -- ---- the answer
 
@@ -306,7 +400,9 @@ all-sound (c ∷ cs) t = let u = both (checkb c) (allb cs) t in (case-sound c (u
 
 -- The single theorem over the list.
 pub cases-right : AllRight cases
+unfolding span
 cases-right = all-sound cases tt
 
 pub more-right : AllRight moreCases
+unfolding span
 more-right = all-sound moreCases tt

@@ -11,7 +11,7 @@ use Rattle.rules.specs.Promises.{Accepted}
 use Rattle.rules.proofs.Chains.{Star, plus-one, star-trans}
 use Rattle.rules.proofs.Search.{some-below?, plus?}
 
-plus-end : (R : Rel) (n : ℕ) → ((a b : ℕ) → R a b → (a < n) × (b < n)) → (a b : ℕ) (l : List ℕ) → Chain R a (l ++ b ∷ []) → b < n
+pub plus-end : (R : Rel) (n : ℕ) → ((a b : ℕ) → R a b → (a < n) × (b < n)) → (a b : ℕ) (l : List ℕ) → Chain R a (l ++ b ∷ []) → b < n
 plus-end R n within a b [] c = within a b (c .0) .1
 plus-end R n within a b (x ∷ l) c = plus-end R n within x b l (c .1)
 

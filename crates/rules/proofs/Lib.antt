@@ -13,3 +13,4 @@ pub mod Given
 pub mod Picked
 pub mod Same
 pub mod Determined
+pub mod Stricter

@@ -102,7 +102,7 @@ module _ (R : Rel) where
     plus-via a b w = chain-via a b (w .0) (w .1)
 
   module _ (R? : (a b : ℕ) → Dec (R a b)) where
-    pub via? : (k a b : ℕ) → Dec (Via k a b)
+    unfoldable pub via? : (k a b : ℕ) → Dec (Via k a b)
     via? zero a b = R? a b
     via? (suc k) a b = go (via? k a b) (via? k a k) (via? k k b)
       where
@@ -112,7 +112,7 @@ module _ (R : Rel) where
         go (no f) (yes v) (no g) = no (⊎-elim f (λ t. g (t .1)))
         go (no f) (no g) e = no (⊎-elim f (λ t. g (t .0)))
 
-    pub plus? : (n : ℕ) → ((a b : ℕ) → R a b → (a < n) × (b < n)) → (a b : ℕ) → Dec (Plus R a b)
+    unfoldable pub plus? : (n : ℕ) → ((a b : ℕ) → R a b → (a < n) × (b < n)) → (a b : ℕ) → Dec (Plus R a b)
     plus? n within a b = go (via? n a b)
       where
         go : Dec (Via n a b) → Dec (Plus R a b)

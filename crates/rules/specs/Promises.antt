@@ -1,10 +1,11 @@
 -- The promises about the rules themselves, demands 2 and 3, as statements. proofs/Promises.antt has a term of each type.
 use Prim.Native.Nat.{ℕ, _<_, _≤_}
 use mathlib.Core.Path.{_≡_}
+use mathlib.Core.Bool.{Bool}
 use mathlib.Core.Logic.{_⊎_, _↔_}
 use mathlib.Core.List.{List}
 use lib.ListN.{length}
-use Rattle.rules.specs.Rules.{MessageNo, Relations, Mapping, Step, Unfit, Fit, NetUnfit, WaitsCycle}
+use Rattle.rules.specs.Rules.{MessageNo, StateNo, Cell, NoEntryDirectly, NoEntry, Relations, ofCells, ofCellsDirectly, Mapping, Step, Unfit, Fit, NetUnfit, WaitsCycle}
 use Rattle.rules.specs.Plan.{Uses, LeastCount, Printed, LongestChain, WaitsPairs, PlanCycle, JudgeCycle, Word, Says}
 
 -- Relations as an accepted protocol gives them: there is a message, the pairs are pairs of messages, and whether a pair is in a relation can be told.
@@ -88,3 +89,29 @@ abbrev pub EveryPrinted : Type 1
 EveryPrinted =
     (p : Relations) → Accepted p → (φ : Mapping) (k : ℕ) → Printed p φ → LeastCount p k →
     Fit p φ × Uses (p .count) φ k × LongestChain p k
+
+-- ---- more stalls pairs
+
+-- q has the messages and the causes of p, and every stalls pair of p.
+pub record Stricter (p q : Relations) : Type 0 where
+  pub same-count : q .count ≡ p .count
+  pub same-causes : (a b : MessageNo) → q .causes a b ↔ p .causes a b
+  pub more-stalls : (a b : MessageNo) → p .stalls a b → q .stalls a b
+
+-- "The other never needs fewer networks, and class 2 stays class 2."
+abbrev pub NeverFewer : Type 1
+NeverFewer = (p q : Relations) → Stricter p q → ((j k : ℕ) → LeastCount p j → LeastCount q k → j ≤ k) × (WaitsCycle p → WaitsCycle q)
+
+-- And a mapping that is fit with more stalls pairs is fit with fewer.
+abbrev pub StillFit : Type 1
+StillFit = (p q : Relations) → Stricter p q → (φ : Mapping) → Fit q φ → Fit p φ
+
+-- ---- what C-12 changes
+
+-- "Every old pair remains": the mended rule is stricter than the old one. "Some class 3 protocols become class 2" (a case of our own), and none goes back.
+abbrev pub OldPairsRemain : Type 0
+OldPairsRemain = (transient : StateNo → Bool) (cells : List Cell) (n : ℕ) → Stricter (ofCellsDirectly cells n) (ofCells transient cells n)
+
+-- A cell that 13 did not refuse is still not refused by it.
+abbrev pub OldEntriesRemain : Type 0
+OldEntriesRemain = (transient : StateNo → Bool) (cells : List Cell) (c : Cell) → NoEntry transient cells c → NoEntryDirectly cells c

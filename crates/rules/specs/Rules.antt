@@ -2,6 +2,7 @@
 -- "Message numbers, network numbers and state numbers all start at 0." Nothing here knows a limit, a width or how tables are stored.
 use Prim.Native.Nat.{ℕ, _<_}
 use mathlib.Core.Path.{_≡_}
+use mathlib.Core.Bool.{Bool, true}
 use mathlib.Core.Logic.{_⊎_, _≢_}
 use mathlib.Core.List.{List, [], _∷_, _++_}
 use Rattle.rules.specs.Lists.{_∈_, Some}
@@ -67,14 +68,37 @@ module _ (cells : List Cell) where
   abbrev pub Carries : MessageNo → StateNo → Type 0
   Carries a s = Some (λ c. Enters c s × Carrier (c .trigger) (c .sent) a) cells
 
-  -- Rule 3, stalls. "a stalls b when b has a `stall` cell in s and a is a carrier of some cell that enters s.
+  -- Rule 3 as it was before C-12. "a stalls b when b has a `stall` cell in s and a is a carrier of some cell that enters s.
   -- A stalled event gives no pair."
-  abbrev pub Stalls : Rel
-  Stalls a b = (s : StateNo) × StallsIn b s × Carries a s
+  abbrev pub StallsDirectly : Rel
+  StallsDirectly a b = (s : StateNo) × StallsIn b s × Carries a s
 
-  -- Refusal 13, NO_ENTRY: "a stalled message in a state whose entries have no carrier".
+  -- Refusal 13 as it was: "a stalled message in a state whose entries have no carrier".
+  abbrev pub NoEntryDirectly : Cell → Type 0
+  NoEntryDirectly c = ((b : MessageNo) × (c .trigger ≡ message b)) × (c .outcome ≡ stall) × ((a : MessageNo) → ¬ Carries a (c .state))
+
+-- Rule 3, mended (02-change-requests.md, C-12). Which states are transient is given beside the cells.
+module _ (transient : StateNo → Bool) (cells : List Cell) where
+  -- A transient state r "having a `go` cell into" s.
+  abbrev pub LeadsInto : Rel
+  LeadsInto r s = (transient r ≡ true) × Some (λ c. (c .state ≡ r) × (c .outcome ≡ go s)) cells
+
+  -- "Take s, and with each state taken also every transient state of that controller having a `go` cell into it": r is taken for s.
+  -- (It is of that controller, because next is a state of the cell's own.)
+  abbrev pub Taken : StateNo → StateNo → Type 0
+  Taken s r = (r ≡ s) ⊎ Plus LeadsInto r s
+
+  -- "The stallers are the carriers of all cells that enter a taken state."
+  abbrev pub Staller : MessageNo → StateNo → Type 0
+  Staller a s = (r : StateNo) × Taken s r × Carries cells a r
+
+  -- Rule 3, stalls: b has a `stall` cell in s, and a is one of the stallers. A stalled event gives no pair.
+  abbrev pub Stalls : Rel
+  Stalls a b = (s : StateNo) × StallsIn cells b s × Staller a s
+
+  -- Refusal 13, NO_ENTRY: "now given when no taken state has a carrier".
   abbrev pub NoEntry : Cell → Type 0
-  NoEntry c = ((b : MessageNo) × (c .trigger ≡ message b)) × (c .outcome ≡ stall) × ((a : MessageNo) → ¬ Carries a (c .state))
+  NoEntry c = ((b : MessageNo) × (c .trigger ≡ message b)) × (c .outcome ≡ stall) × ((a : MessageNo) → ¬ Staller a (c .state))
 
 -- ---- a protocol, as far as the rules 4 to 7 see it
 
@@ -85,8 +109,12 @@ pub record Relations : Type 1 where
   pub stalls : Rel
 
 -- The relations that rules 1 to 3 give for the cells of a protocol with n messages.
-abbrev pub ofCells : List Cell → ℕ → Relations
-ofCells cells n = record { count = n; causes = Causes cells; stalls = Stalls cells }
+abbrev pub ofCells : (StateNo → Bool) → List Cell → ℕ → Relations
+ofCells transient cells n = record { count = n; causes = Causes cells; stalls = Stalls transient cells }
+
+-- And by rule 3 as it was before C-12.
+abbrev pub ofCellsDirectly : List Cell → ℕ → Relations
+ofCellsDirectly cells n = record { count = n; causes = Causes cells; stalls = StallsDirectly cells }
 
 -- A mapping: the network of each message.
 abbrev pub Mapping : Type 0

@@ -1,4 +1,5 @@
 pub mod causes
 pub mod carriers
+pub mod stallers
 pub mod stalls
 pub mod entries

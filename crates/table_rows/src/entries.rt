@@ -1,4 +1,4 @@
-// Refusal 13, NO_ENTRY: the first stalled message whose cell stands in a state that no message carries to.
+// Refusal 13, NO_ENTRY: the first stalled message for whose state no taken state has a carrier.
 ghost use mathlib.Core.Path.{_≡_};
 ghost use mathlib.Core.Logic.{_↔_};
 ghost use mathlib.Core.Bool.{true};
@@ -11,7 +11,7 @@ use tables::Outcome;
 use tables::Tables;
 use tables::Trigger;
 
-// Whether d stalls a message, and the row of its state's carriers is empty.
+// Whether d stalls a message, and the row of its state's stallers is empty.
 fn lacks_entry(row: u64, d: Cell) -> bool
     ensures { λ r. ⌜ (r ≡ true) ↔ CellNoEntry (Bit row) (asRuleCell d) ⌝ }
 {
@@ -26,18 +26,18 @@ fn lacks_entry(row: u64, d: Cell) -> bool
     }
 }
 
-// The first cell of a stalled message in a state whose entries have no carrier, or the number of cells where there is none.
+// The first cell of a stalled message that has no staller, or the number of cells where there is none.
 pub fn no_entry(t: Tables) -> usize
     requires { ⌜ TablesOk t ⌝ }
     ensures { λ r. ⌜ FirstNoEntry t r ⌝ }
 {
-    let carriers = crate::carriers::carrier_rows(t);
+    let stallers = crate::stallers::staller_rows(t);
     let n = t.cell_count;
     let mut i = 0;
     while i < n {
         let d = t.cells[i];
         let own = d.state.index();
-        if lacks_entry(carriers[own], d) {
+        if lacks_entry(stallers[own], d) {
             return i;
         }
         i += 1;

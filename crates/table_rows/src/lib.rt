@@ -3,4 +3,5 @@ pub mod carriers;
 pub mod causes;
 pub mod entries;
 pub mod sent;
+pub mod stallers;
 pub mod stalls;

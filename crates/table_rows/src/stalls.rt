@@ -41,11 +41,11 @@ fn with_column(rows: [u64; tables::MESSAGES], who: u64, b: Message) -> [u64; tab
 // Rule 3 at one cell: the rows with who stalls d's message, if d stalls one.
 fn with_stalls(
     rows: [u64; tables::MESSAGES],
-    carriers: [u64; tables::STATES],
+    stallers: [u64; tables::STATES],
     d: Cell,
 ) -> [u64; tables::MESSAGES]
     requires { ⌜ CellOk 64 8 64 d ⌝ }
-    ensures { λ r. ⌜ Adds (CellStalls (Among carriers) (asRuleCell d)) rows r ⌝ }
+    ensures { λ r. ⌜ Adds (CellStalls (Among stallers) (asRuleCell d)) rows r ⌝ }
 {
     let o = d.outcome;
     let t = d.trigger;
@@ -55,7 +55,7 @@ fn with_stalls(
             Trigger::Event(_) => rows,
             Trigger::Message(m) => {
                 let s = d.state.index();
-                with_column(rows, carriers[s], m)
+                with_column(rows, stallers[s], m)
             }
         },
     }
@@ -66,13 +66,13 @@ pub fn stalls_rows(t: Tables) -> [u64; tables::MESSAGES]
     requires { ⌜ TablesOk t ⌝ }
     ensures { λ r. ⌜ StallsRows t r ⌝ }
 {
-    let carriers = crate::carriers::carrier_rows(t);
+    let stallers = crate::stallers::staller_rows(t);
     let n = t.cell_count;
     let mut rows = [0u64; tables::MESSAGES];
     let mut i = 0;
     while i < n {
         let stalling = t.cells[i];
-        let next = with_stalls(rows, carriers, stalling);
+        let next = with_stalls(rows, stallers, stalling);
         rows = next;
         i += 1;
     }

@@ -1,17 +1,20 @@
 -- The cells of the rules that a tables' value stands for, and when its numbers are in range.
 use Prim.Native.Nat.{ℕ, _≤_, _<_}
+use mathlib.Core.Bool.{Bool, true, false}
 use mathlib.Core.List.{List, [], _∷_, map}
-use lib.ListN.{take}
+use lib.ListN.{take, getD}
 use Rattle.rules.specs.declared.Message.{Message}
 use Rattle.rules.specs.Lists.{_∈_}
-use Rattle.rules.specs.Rules.{Relations, ofCells, message, event, stall, go, Cell as RuleCell, Trigger as RuleTrigger, Outcome as RuleOutcome}
+use Rattle.rules.specs.Rules.{StateNo, Relations, ofCells, message, event, stall, go, Cell as RuleCell, Trigger as RuleTrigger, Outcome as RuleOutcome}
+use Rattle.tables.specs.declared.Stability.{Stability}
+use Rattle.tables.specs.declared.Stability.the-variants.{Stable, Transient}
 use Rattle.tables.specs.declared.Trigger.{Trigger}
 use Rattle.tables.specs.declared.Trigger.the-variants.{Message as OnMessage, Event as OnEvent}
 use Rattle.tables.specs.declared.Outcome.{Outcome}
 use Rattle.tables.specs.declared.Outcome.the-variants.{Stall, Go}
 use Rattle.tables.specs.declared.Cell.{Cell}
 use Rattle.tables.specs.declared.Tables.{Tables}
-use Rattle.tables.specs.Tables.{storedOf}
+use Rattle.tables.specs.Tables.{noState, statesOf, storedOf}
 
 abbrev pub asRuleTrigger : Trigger → RuleTrigger
 asRuleTrigger (OnMessage m) = message (m .0)
@@ -35,9 +38,18 @@ asRuleCell c = record { state = c .state .0; trigger = asRuleTrigger (c .trigger
 unfoldable pub cellsOf : Tables → List RuleCell
 cellsOf t = map asRuleCell (storedOf t)
 
+-- Whether a state is declared `transient`.
+abbrev pub isTransient : Stability → Bool
+isTransient Stable = false
+isTransient Transient = true
+
+-- Whether state number s is one that is declared `transient`.
+unfoldable pub transientOf : Tables → StateNo → Bool
+transientOf t s = isTransient (getD (statesOf t) s noState .stability)
+
 -- The relations that rules 1 to 3 give for the tables.
 abbrev pub relationsOfTables : Tables → Relations
-relationsOfTables t = ofCells (cellsOf t) (t .«message_count»)
+relationsOfTables t = ofCells (transientOf t) (cellsOf t) (t .«message_count»)
 
 -- ---- numbers in range
 

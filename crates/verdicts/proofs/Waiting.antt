@@ -12,7 +12,8 @@ use Rattle.rules.proofs.Chains.{plus-map}
 use Rattle.rules.proofs.Decided.{waits-within}
 use Rattle.rows.specs.Rows.{Bit, Rows, ofRows}
 use Rattle.rows.proofs.Bits.{bit-zero}
-use Rattle.waits.specs.Waiting.{Tidy, WaitsRows}
+use Rattle.rows.specs.Gather.{Tidy}
+use Rattle.waits.specs.Waiting.{WaitsRows}
 use Rattle.tables.specs.declared.Tables.{Tables}
 use Rattle.tables.specs.Cells.{relationsOfTables, TablesOk}
 use Rattle.tables.specs.Relations.{CausesRows, StallsRows}

@@ -2,39 +2,13 @@
 pub mod steps;
 
 ghost use mathlib.Core.Path.{_≡_};
-ghost use Prim.Native.Nat.{ℕ, _<_, _≤_};
+ghost use Prim.Native.Nat.{_≤_};
 ghost use lib.ListN.{length};
-ghost use Rattle.rows.specs.Rows.{Bit};
 ghost use Rattle.rows.specs.Closure.{Closure};
 ghost use Rattle.rows.specs.Joins.{joins};
-ghost use Rattle.waits.specs.Waiting.{Tidy, Spread, Gathered, WaitsRows, WaitsOnly, RowPairs};
+ghost use Rattle.rows.specs.Gather.{Tidy};
+ghost use Rattle.waits.specs.Waiting.{WaitsRows, WaitsOnly, RowPairs};
 use rows::WIDTH;
-
-// Each row whose place is in the set takes in the row. The next place is found by trailing zeros.
-fn spread(row: u64, set: u64, waits: &mut [u64])
-    requires { ⌜ ((b : ℕ) → Bit set b → b < length (now waits)) ⌝ }
-    ensures { λ _. ⌜ Spread row set (now (waits .entry)) (now (waits .exit)) ⌝ }
-{
-    let mut left: u64 = set;
-    while left != 0 {
-        let b = rows::lowest(left);
-        waits[b] = rows::join(waits[b], row);
-        left = rows::without_lowest(left);
-    }
-}
-
-// Row b becomes the union of the closed rows of all a that stall b.
-fn gather(closed: &[u64], stalls: &[u64], n: usize, waits: &mut [u64])
-    requires { ⌜ (n ≤ 64) × (n ≤ length (now closed)) × (n ≤ length (now stalls)) × (n ≤ length (now waits)) × Tidy n (now stalls) ⌝ }
-    ensures { λ _. ⌜ Gathered n (now (closed .entry)) (now (stalls .entry)) (now (waits .entry)) (now (waits .exit)) ⌝ }
-{
-    rows::clear(waits, n);
-    let mut a: usize = 0;
-    while a < n {
-        spread(closed[a], stalls[a], waits);
-        a += 1;
-    }
-}
 
 // The rows of waits, by rule 4. The rows of causes are closed on the way; gives the number of row joins that this takes.
 pub fn waits(causes: &mut [u64], stalls: &[u64], n: usize, waits: &mut [u64]) -> usize
@@ -44,7 +18,7 @@ pub fn waits(causes: &mut [u64], stalls: &[u64], n: usize, waits: &mut [u64]) ->
     ensures { λ r. ⌜ r ≡ joins n (now (causes .entry)) ⌝ }
 {
     let joins = rows::closure::closure(causes, n);
-    gather(causes, stalls, n, waits);
+    rows::gather::gather(causes, stalls, n, waits);
     joins
 }
 

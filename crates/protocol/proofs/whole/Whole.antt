@@ -16,7 +16,7 @@ use Rattle.papers.specs.Checks.{firstOf, refusal}
 use Rattle.tables.specs.declared.Cell.{Cell}
 use Rattle.tables.specs.declared.Tables.{Tables}
 use Rattle.tables.specs.Tables.{noCell}
-use Rattle.tables.specs.Cells.{asRuleCell, cellsOf}
+use Rattle.tables.specs.Cells.{asRuleCell, cellsOf, transientOf}
 use Rattle.tables.specs.Relations.{cellAt, FirstNoEntry}
 use Rattle.protocol.specs.whole.Whole.{refused, accepted, unless, hasNoEntry, noEntryAt, cellLine, wholeRefusal}
 
@@ -51,40 +51,40 @@ module _ {A B : Type 0} (p : B → Bool) (g : A → B) where
 -- the code's answer is the place that the definition names
 pub entry-place : (t : Tables) (r : ℕ) → length (t .cells) ≡ 512 → t .«cell_count» ≤ 512 → FirstNoEntry t r → noEntryAt t ≡ r
 unfolding noEntryAt cellsOf
-entry-place t r long few h = first-map (hasNoEntry (cellsOf t)) asRuleCell (take (t .«cell_count») (t .cells)) ∙ go (eq-or-lt-of-le (h .within))
+entry-place t r long few h = first-map (hasNoEntry (transientOf t) (cellsOf t)) asRuleCell (take (t .«cell_count») (t .cells)) ∙ go (eq-or-lt-of-le (h .within))
   where
     p : Cell → Bool
-    p c = hasNoEntry (cellsOf t) (asRuleCell c)
+    p c = hasNoEntry (transientOf t) (cellsOf t) (asRuleCell c)
 
     before : (j : ℕ) → j < r → p (getD (t .cells) j noCell) ≡ false
-    before j k = decided-no (no-entry? (cellsOf t) (cellAt t j)) (h .earlier j k)
+    before j k = decided-no (no-entry? (transientOf t) (cellsOf t) (cellAt t j)) (h .earlier j k)
 
     go : (r ≡ t .«cell_count») ⊎ (r < t .«cell_count») → firstIndex p (take (t .«cell_count») (t .cells)) ≡ r
     go (inl e) = first-none p (t .cells) (t .«cell_count») noCell (omega arith) (λ j k. before j (omega arith)) ∙ sym e
-    go (inr k) = first-at p (t .cells) (t .«cell_count») r noCell k (omega arith) before (decided-yes (no-entry? (cellsOf t) (cellAt t r)) (h .found k))
+    go (inr k) = first-at p (t .cells) (t .«cell_count») r noCell k (omega arith) before (decided-yes (no-entry? (transientOf t) (cellsOf t) (cellAt t r)) (h .found k))
 
 -- the definition names the first cell that has no entry
 pub first-no-entry : (t : Tables) → length (t .cells) ≡ 512 → t .«cell_count» ≤ 512 → FirstNoEntry t (noEntryAt t)
 unfolding noEntryAt cellsOf
 first-no-entry t long few =
     let n = t .«cell_count» in
-    let q = first-map (hasNoEntry (cellsOf t)) asRuleCell (take n (t .cells)) in
+    let q = first-map (hasNoEntry (transientOf t) (cellsOf t)) asRuleCell (take n (t .cells)) in
     let size : length (take n (t .cells)) ≡ n = length-take-le n (t .cells) (omega arith) in
     let le = first-le p (take n (t .cells)) in
     record {
       within = omega (arith, q, size, le);
       earlier = λ i h.
-          decided-false (no-entry? (cellsOf t) (cellAt t i))
+          decided-false (no-entry? (transientOf t) (cellsOf t) (cellAt t i))
           (ap p (sym (getD-take n (t .cells) i noCell (omega (arith, q, size, le, h)))) ∙ first-before p (take n (t .cells)) noCell i (omega (arith, q, h)));
       found = λ h.
-          decided-true (no-entry? (cellsOf t) (cellAt t (noEntryAt t)))
+          decided-true (no-entry? (transientOf t) (cellsOf t) (cellAt t (noEntryAt t)))
           (ap p (sym (getD-take n (t .cells) (noEntryAt t) noCell h))
           ∙ ap (λ (i : ℕ). p (getD (take n (t .cells)) i noCell)) q
           ∙ first-passes p (take n (t .cells)) noCell (omega (arith, q, size, h)));
     }
   where
     p : Cell → Bool
-    p c = hasNoEntry (cellsOf t) (asRuleCell c)
+    p c = hasNoEntry (transientOf t) (cellsOf t) (asRuleCell c)
 
 pub no-message : (t : Tables) → t .«message_count» ≡ 0 → unless (wholeRefusal t) (accepted t) ≡ refused (refusal 12 0)
 unfolding wholeRefusal firstOf

@@ -3,14 +3,14 @@ use Prim.Native.Nat.{ℕ, _+_}
 use mathlib.Core.Bool.{Bool, decide, cond}
 use mathlib.Core.List.{List, [], _∷_}
 use lib.Dec.{eqb, ltb}
-use Rattle.rules.specs.Rules.{Cell}
+use Rattle.rules.specs.Rules.{StateNo, Cell}
 use Rattle.rules.proofs.Entry.{no-entry?}
 use Rattle.text.specs.Parts.{firstIndex}
 use Rattle.papers.specs.declared.Refusal.{Refusal}
 use Rattle.papers.specs.Checks.{Check, check, none, firstOf}
 use Rattle.tables.specs.declared.Tables.{Tables}
 use Rattle.tables.specs.Tables.{clearedTables}
-use Rattle.tables.specs.Cells.{cellsOf}
+use Rattle.tables.specs.Cells.{cellsOf, transientOf}
 use Rattle.protocol.specs.declared.whole.Reading.{Reading}
 
 -- "A refusal returns number, paper, line": the refusal, and tables as they were cleared.
@@ -26,13 +26,13 @@ unless r a = cond (eqb (r .number) 0) a (refused r)
 
 -- ---- the whole text: 12 and 13
 
--- 13 NO_ENTRY of one cell: "a stalled message in a state whose entries have no carrier".
-abbrev pub hasNoEntry : List Cell → Cell → Bool
-hasNoEntry cells c = decide (no-entry? cells c)
+-- 13 NO_ENTRY of one cell: a stalled message for whose state "no taken state has a carrier".
+abbrev pub hasNoEntry : (StateNo → Bool) → List Cell → Cell → Bool
+hasNoEntry transient cells c = decide (no-entry? transient cells c)
 
 -- The first such cell, or the number of cells where there is none.
 unfoldable pub noEntryAt : Tables → ℕ
-noEntryAt t = firstIndex (hasNoEntry (cellsOf t)) (cellsOf t)
+noEntryAt t = firstIndex (hasNoEntry (transientOf t) (cellsOf t)) (cellsOf t)
 
 -- The line of cell i: the header and every other record stand before the cells.
 abbrev pub cellLine : Tables → ℕ → ℕ

@@ -17,7 +17,7 @@ use Rattle.papers.proofs.OpeningLaws.{too-big}
 use Rattle.tables.specs.declared.MessageRow.{MessageRow}
 use Rattle.tables.specs.declared.Tables.{Tables}
 use Rattle.tables.specs.Tables.{clearedTables, storedOf, withMessage, withEvent, withState, withCell}
-use Rattle.tables.specs.Cells.{cellsOf, asRuleCell}
+use Rattle.tables.specs.Cells.{cellsOf, transientOf, asRuleCell}
 use Rattle.text.specs.Line.{Line}
 use Rattle.lines.specs.Line.{Section, message, event, state, cell, unknown, sectionOf}
 use Rattle.lines.specs.Checks.{sectionChecks, lineChecks, lineRefusal}
@@ -52,7 +52,7 @@ total t = t .«message_count» + t .«event_count» + t .«state_count» + t .«
 
 entry-le : (t : Tables) → noEntryAt t ≤ t .«cell_count»
 unfolding noEntryAt cellsOf
-entry-le t = omega (arith, first-le (hasNoEntry (cellsOf t)) (cellsOf t), length-map (storedOf t) asRuleCell, length-take (t .«cell_count») (t .cells))
+entry-le t = omega (arith, first-le (hasNoEntry (transientOf t) (cellsOf t)) (cellsOf t), length-map (storedOf t) asRuleCell, length-take (t .«cell_count») (t .cells))
 
 stored-total : (s : Section) (t : Tables) (f : Line) → total (storedIn s t f) ≤ suc (total t)
 unfolding withMessage withEvent withState withCell

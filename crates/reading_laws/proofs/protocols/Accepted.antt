@@ -10,7 +10,7 @@ use Rattle.rules.specs.Rules.{NoEntry}
 use Rattle.papers.specs.Checks.{check}
 use Rattle.papers.proofs.Checks.{passed-by}
 use Rattle.tables.specs.declared.Tables.{Tables}
-use Rattle.tables.specs.Cells.{cellsOf, TablesOk}
+use Rattle.tables.specs.Cells.{cellsOf, transientOf, TablesOk}
 use Rattle.tables.specs.Relations.{cellAt}
 use Rattle.tables.proofs.InRange.{relations-accepted}
 use Rattle.protocol.specs.declared.whole.Reading.{Reading}
@@ -32,7 +32,7 @@ module _ (t : Tables) (z : wholeRefusal t .number ≡ 0) where
   some-message : 0 < t .«message_count»
   some-message = omega (arith, eqb-false (t .«message_count») 0 (both .0))
 
-  all-entries : Kept t → (i : ℕ) → i < t .«cell_count» → ¬ NoEntry (cellsOf t) (cellAt t i)
+  all-entries : Kept t → (i : ℕ) → i < t .«cell_count» → ¬ NoEntry (transientOf t) (cellsOf t) (cellAt t i)
   all-entries k i h = first-no-entry t (k .long) (k .ok .few) .earlier i (omega (arith, ltb-false (noEntryAt t) (t .«cell_count») (both .1)))
 
 pub accepted-kept : AcceptedKept

@@ -18,6 +18,9 @@ use Rattle.papers.proofs.Checks.{only-given, Numbered, numbered}
 use Rattle.papers.proofs.OpeningLaws.{opening-rows}
 use Rattle.tables.specs.declared.Tables.{Tables}
 use Rattle.tables.specs.Tables.{clearedTables}
+use Rattle.tables.specs.Cells.{cellsOf, transientOf}
+use Rattle.tables.specs.Relations.{cellAt}
+use Rattle.rules.proofs.Stricter.{old-entries-remain}
 use Rattle.text.specs.Line.{Line}
 use Rattle.lines.specs.Line.{sectionOf}
 use Rattle.lines.specs.Checks.{shaped, lineChecks, lineRefusal}
@@ -25,7 +28,7 @@ use Rattle.protocol.specs.declared.whole.Reading.{Reading}
 use Rattle.protocol.specs.whole.Whole.{refused, accepted, noEntryAt, wholeChecks, wholeRefusal}
 use Rattle.protocol.specs.sections.Lines.{stored, readLines}
 use Rattle.protocol.specs.Reading.{readProtocol}
-use Rattle.reading_laws.specs.protocols.Promises.{after, fieldsAt, refusalAt, Unrefused, BadOpening, BadLine, BadWhole, AllRead, LinesAnswered, linesOf, EveryAnswer, atEnd, Unbroken, Comes, Why, OnlyUnderItsRow, RefusedCleared, too-big, no-end, header, shape, order, name, not-declared, declared-twice, too-many, stall-stable, clashes, no-message, no-entry}
+use Rattle.reading_laws.specs.protocols.Promises.{after, fieldsAt, refusalAt, Unrefused, BadOpening, BadLine, BadWhole, AllRead, LinesAnswered, linesOf, EveryAnswer, atEnd, Unbroken, Comes, Why, OnlyUnderItsRow, RefusedAsBefore, OldTextsRemain, RefusedCleared, too-big, no-end, header, shape, order, name, not-declared, declared-twice, too-many, stall-stable, clashes, no-message, no-entry}
 use Rattle.protocol.specs.whole.Kept.{Kept}
 use Rattle.protocol.proofs.sections.Kept.{kept-cleared}
 use Rattle.reading_laws.proofs.protocols.KeptLines.{kept-after}
@@ -208,6 +211,28 @@ only-under-its-row text z =
     answer-told text (wholeRefusal (atEnd text)) a (w .is)
     (subst (Told text) (sym (w .told .is)) (why-whole text (w .told .place) (w .before) (w .told .first .below) (w .told .first .given))))))
     (answer text)
+
+-- of the rows only that of 13 has its number
+before-13 : (text : List ℕ) (n l : ℕ) → Why text n l → n ≡ 13 → readProtocol text .refusal .line ≡ l → RefusedAsBefore text
+before-13 text n l (too-big e) q r = absurd (omega (arith, q))
+before-13 text n l (no-end e) q r = absurd (omega (arith, q))
+before-13 text n l (header e) q r = absurd (omega (arith, q))
+before-13 text n l (shape i c e) q r = absurd (omega (arith, q))
+before-13 text n l (order i c e) q r = absurd (omega (arith, q))
+before-13 text n l (name i c e) q r = absurd (omega (arith, q))
+before-13 text n l (not-declared i c e) q r = absurd (omega (arith, q))
+before-13 text n l (declared-twice i c e) q r = absurd (omega (arith, q))
+before-13 text n l (too-many i c e) q r = absurd (omega (arith, q))
+before-13 text n l (stall-stable i c e) q r = absurd (omega (arith, q))
+before-13 text n l (clashes i c e) q r = absurd (omega (arith, q))
+before-13 text n l (no-message u e) q r = absurd (omega (arith, q))
+before-13 text n l (no-entry u i h f) q r =
+    let t = atEnd text in
+    record { lines = u; cell = i; stored = h; told = r; directly = old-entries-remain (transientOf t) (cellsOf t) (cellAt t i) (f .found h) }
+
+pub old-texts-remain : OldTextsRemain
+old-texts-remain text z =
+    before-13 text (readProtocol text .refusal .number) (readProtocol text .refusal .line) (only-under-its-row text (λ e. absurd (omega (arith, e, z)))) z refl
 
 pub refused-cleared : RefusedCleared
 refused-cleared text z =

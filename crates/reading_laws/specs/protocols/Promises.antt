@@ -5,7 +5,7 @@ use mathlib.Core.Logic.{_⊎_}
 use mathlib.Core.Bool.{true, false}
 use mathlib.Core.List.{List, [], _∷_}
 use lib.ListN.{length, getD, drop}
-use Rattle.rules.specs.Rules.{NoEntry}
+use Rattle.rules.specs.Rules.{NoEntryDirectly, NoEntry}
 use Rattle.rules.specs.Promises.{Accepted}
 use Rattle.text.specs.Parts.{split, lines}
 use Rattle.text.specs.Words.{protocolHeader}
@@ -14,7 +14,7 @@ use Rattle.papers.specs.declared.Refusal.{Refusal}
 use Rattle.papers.specs.Opening.{tooBig, noEnd, lastLine, wrongHeader, openingChecks, openingOf, Opens}
 use Rattle.tables.specs.declared.Tables.{Tables}
 use Rattle.tables.specs.Tables.{clearedTables}
-use Rattle.tables.specs.Cells.{cellsOf, relationsOfTables}
+use Rattle.tables.specs.Cells.{cellsOf, transientOf, relationsOfTables}
 use Rattle.tables.specs.Relations.{cellAt, FirstNoEntry}
 use Rattle.text.specs.Line.{Line}
 use Rattle.lines.specs.Line.{Section, sectionOf}
@@ -127,13 +127,25 @@ pub data Why (text : List ℕ) : ℕ → ℕ → Type 0 where
 abbrev pub OnlyUnderItsRow : Type 0
 OnlyUnderItsRow = (text : List ℕ) → (readProtocol text .refusal .number ≡ 0 → ⊥) → Why text (readProtocol text .refusal .number) (readProtocol text .refusal .line)
 
+-- What the mended rule (C-12) leaves: "13 is now given when no taken state has a carrier; its place is unchanged". A text that 13 did not refuse is still not refused by it:
+-- where it refuses, no line is refused, and the cell whose line is told has no entry with a carrier, as it was before.
+pub record RefusedAsBefore (text : List ℕ) : Type 0 where
+  pub lines : Unbroken text (length (linesOf text))
+  pub cell : ℕ
+  pub stored : cell < atEnd text .«cell_count»
+  pub told : readProtocol text .refusal .line ≡ cellLine (atEnd text) cell
+  pub directly : NoEntryDirectly (cellsOf (atEnd text)) (cellAt (atEnd text) cell)
+
+abbrev pub OldTextsRemain : Type 0
+OldTextsRemain = (text : List ℕ) → readProtocol text .refusal .number ≡ 13 → RefusedAsBefore text
+
 -- ---- what is accepted
 
 pub record AcceptedReading (r : Reading) : Type 0 where
   pub line : r .refusal .line ≡ 0
   pub kept : Kept (r .tables)
   pub some : 0 < r .tables .«message_count»
-  pub entries : (i : ℕ) → i < r .tables .«cell_count» → ¬ NoEntry (cellsOf (r .tables)) (cellAt (r .tables) i)
+  pub entries : (i : ℕ) → i < r .tables .«cell_count» → ¬ NoEntry (transientOf (r .tables)) (cellsOf (r .tables)) (cellAt (r .tables) i)
   pub relations : Accepted (relationsOfTables (r .tables))
 
 abbrev pub AcceptedKept : Type 0

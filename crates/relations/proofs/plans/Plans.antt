@@ -17,7 +17,8 @@ use Rattle.rows.specs.Joins.{joins}
 use Rattle.rows.proofs.Given.{rows-accepted}
 use Rattle.rows.proofs.closure.Joining.{joins-same}
 use Rattle.walks.specs.Walks.{Heights, Cycle}
-use Rattle.waits.specs.Waiting.{Tidy, WaitsRows, RowPairs}
+use Rattle.rows.specs.Gather.{Tidy}
+use Rattle.waits.specs.Waiting.{WaitsRows, RowPairs}
 use Rattle.waits.proofs.Waiting.{waits-same}
 use Rattle.text.specs.Written.{Wrote}
 use Rattle.relations.specs.declared.answer.RelationsAnswer.{RelationsAnswer}

@@ -14,7 +14,7 @@ use Rattle.rows.specs.Row.{Meet, AllBelow}
 use Rattle.rows.proofs.Bits.{bit?, same-bits}
 use Rattle.rows.proofs.FillingRows.{FillingRows, fill-step, fill-each, fill-kept}
 use Rattle.rows.proofs.Together.{Together}
-use Rattle.waits.specs.Waiting.{Tidy}
+use Rattle.rows.specs.Gather.{Tidy}
 use Rattle.relations.specs.row_bytes.RowBytes.{RowSize, fromBytes, rowsOfBytes, rowAt, Loaded}
 
 -- ---- a row by its place

@@ -2,7 +2,7 @@
 use Prim.Native.Nat.{ℕ, _<_, _^_}
 use mathlib.Core.Path.{_≡_, subst, ap}
 use mathlib.Core.Logic.{_↔_}
-use mathlib.Core.Bool.{true, false}
+use mathlib.Core.Bool.{Bool, true, false}
 use mathlib.Core.List.{List, []}
 use native.Mathlib.Omega.{arith}
 use lib.Dec.{eqb}
@@ -10,7 +10,7 @@ use borrow.Author.Tests.{eqb-true, eq-eqb}
 use Rattle.rules.specs.declared.Message.{Message}
 use Rattle.rules.specs.declared.Event.{Event}
 use Rattle.rules.specs.declared.State.{State}
-use Rattle.rules.specs.Rules.{Carries, NoEntry, Cell as RuleCell}
+use Rattle.rules.specs.Rules.{Staller, NoEntry, Cell as RuleCell}
 use Rattle.rows.specs.Rows.{Bit}
 use Rattle.rows.proofs.Bits.{bit-zero, no-bits}
 use Rattle.tables.specs.declared.Trigger.the-variants.{Message as OnMessage, Event as OnEvent}
@@ -38,9 +38,9 @@ answer-no g = (λ e. absurd (let z : _≡_ {A = ℕ} 0 1 = cc in omega arith), �
 pub answer-empty : (w row : ℕ) → row < 2 ^ w → (eqb row 0 ≡ true) ↔ ((a : ℕ) → ¬ Bit row a)
 answer-empty w row h = (λ e a b. bit-zero a (subst (λ (r : ℕ). Bit r a) (eqb-true row 0 e) b), λ g. eq-eqb row 0 (no-bits w row h (λ j k. g j)))
 
--- refusal 13 by the row of the state's carriers
-pub no-entry-row : (cells : List RuleCell) (P : ℕ → Type 0) (c : RuleCell) → ((a : ℕ) → P a ↔ Carries cells a (c .state)) → CellNoEntry P c ↔ NoEntry cells c
-no-entry-row cells P c f = (λ t. (t .0, t .1, λ a k. t .2 a (f a .1 k)), λ t. (t .0, t .1, λ a p. t .2 a (f a .0 p)))
+-- refusal 13 by the row of the state's stallers
+pub no-entry-row : (transient : ℕ → Bool) (cells : List RuleCell) (P : ℕ → Type 0) (c : RuleCell) → ((a : ℕ) → P a ↔ Staller transient cells a (c .state)) → CellNoEntry P c ↔ NoEntry transient cells c
+no-entry-row transient cells P c f = (λ t. (t .0, t .1, λ a k. t .2 a (f a .1 k)), λ t. (t .0, t .1, λ a p. t .2 a (f a .0 p)))
 
 -- what the code reads past the last cell
 abbrev pub zeroCell : Cell

@@ -2,12 +2,13 @@
 use Prim.Native.Nat.{ℕ}
 use mathlib.Core.Path.{_≡_, refl, sym, subst, ap, _∙_}
 use mathlib.Core.Logic.{_↔_}
+use mathlib.Core.Bool.{Bool}
 use mathlib.Core.List.{List}
 use Rattle.rules.specs.declared.Message.{Message}
 use Rattle.rules.specs.declared.Event.{Event}
 use Rattle.rules.specs.declared.State.{State}
 use Rattle.rules.specs.Lists.{Some}
-use Rattle.rules.specs.Rules.{Carries, Stalls, message, stall, Cell as RuleCell}
+use Rattle.rules.specs.Rules.{Staller, Stalls, message, stall, Cell as RuleCell}
 use Rattle.rules.proofs.Entry.{some-map, some-get}
 use Rattle.tables.specs.declared.Trigger.the-variants.{Message as OnMessage, Event as OnEvent}
 use Rattle.tables.specs.declared.Outcome.the-variants.{Stall, Go}
@@ -29,14 +30,14 @@ module _ (d : Cell) (C : ℕ → ℕ → Type 0) where
     λ t. (t .2, same-message (asRuleTrigger (d .trigger)) (m .0) b (ap asRuleTrigger f) (t .0)),
   )
 
--- rule 3 cell by cell: a stall cell, and who carries to its state
-pub stalls-cells : (C : ℕ → ℕ → Type 0) (cells : List RuleCell) → ((a s : ℕ) → C a s ↔ Carries cells a s) → (a b : ℕ) → Some (λ c. CellStalls C c a b) cells ↔ Stalls cells a b
-stalls-cells C cells f a b = (
+-- rule 3 cell by cell: a stall cell, and the stallers of its state
+pub stalls-cells : (C : ℕ → ℕ → Type 0) (transient : ℕ → Bool) (cells : List RuleCell) → ((a s : ℕ) → C a s ↔ Staller transient cells a s) → (a b : ℕ) → Some (λ c. CellStalls C c a b) cells ↔ Stalls transient cells a b
+stalls-cells C transient cells f a b = (
   λ h. let r = some-get (λ c. CellStalls C c a b) cells h in (
     r .0 .state,
     r .2 (λ c. (c .state ≡ r .0 .state) × (c .trigger ≡ message b) × (c .outcome ≡ stall)) (refl, r .1 .0, r .1 .1),
     f a (r .0 .state) .0 (r .1 .2),
   ),
   λ t. some-map (λ c. (c .state ≡ t .0) × (c .trigger ≡ message b) × (c .outcome ≡ stall)) (λ c. CellStalls C c a b)
-      (λ c q. (q .1, q .2, f a (c .state) .1 (subst (Carries cells a) (sym (q .0)) (t .2)))) cells (t .1),
+      (λ c q. (q .1, q .2, f a (c .state) .1 (subst (Staller transient cells a) (sym (q .0)) (t .2)))) cells (t .1),
 )

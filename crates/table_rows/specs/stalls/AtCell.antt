@@ -10,7 +10,7 @@ use Rattle.rows.specs.Rows.{Bit}
 abbrev pub Among : List ℕ → ℕ → ℕ → Type 0
 Among rows a s = Bit (getD rows s 0) a
 
--- Rule 3 at one cell: it is a `stall` cell of b in a state that a carries something to.
+-- Rule 3 at one cell: it is a `stall` cell of b in a state whose stallers a is among.
 abbrev pub CellStalls : (ℕ → ℕ → Type 0) → RuleCell → ℕ → ℕ → Type 0
 CellStalls C c a b = (c .trigger ≡ message b) × (c .outcome ≡ stall) × C a (c .state)
 

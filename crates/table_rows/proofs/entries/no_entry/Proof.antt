@@ -7,11 +7,11 @@ use native.Mathlib.Omega.{arith}
 use lib.ListN.{length, length-map, getD}
 use borrow.Author.Count.{below-more}
 use borrow.Author.Needs.{needs}
-use Rattle.rules.specs.Rules.{NoEntry, Carries}
+use Rattle.rules.specs.Rules.{NoEntry, Staller}
 use Rattle.rows.specs.Rows.{Bit}
 use Rattle.tables.specs.declared.Cell.{Cell}
 use Rattle.tables.specs.Tables.{noCell}
-use Rattle.tables.specs.Cells.{asRuleCell, cellsOf}
+use Rattle.tables.specs.Cells.{asRuleCell, cellsOf, transientOf}
 use Rattle.tables.specs.Relations.{cellAt}
 use Rattle.tables.proofs.Gather.{↔-trans}
 use Rattle.tables.proofs.InRange.{cell-at}
@@ -21,10 +21,10 @@ use Rattle.table_rows.proofs.entries.no_entry.Statement.{statement}
 use Rattle.table_rows.proofs.entries.no_entry.Tie as tie
 
 abbrev Inv-loop : tie.InvT-loop
-Inv-loop t carriers n i₀ i = (i ≤ n) × ((k : ℕ) → k < i → ¬ NoEntry (cellsOf t) (cellAt t k))
+Inv-loop t stallers n i₀ i = (i ≤ n) × ((k : ℕ) → k < i → ¬ NoEntry (transientOf t) (cellsOf t) (cellAt t k))
 
 abbrev μ-loop : tie.MeasureT-loop
-μ-loop t carriers n i₀ i = n - i
+μ-loop t stallers n i₀ i = n - i
 
 long : (c : tie.Start Inv-loop μ-loop) → length (c .args .t1 .cells) ≡ 512
 long c = sym (length-map (c .args .t1 .cells) _) ∙ c .good .0 .1 .1 .1 .1 .1 .0 .1 .0 .1
@@ -34,21 +34,21 @@ own : (c : tie.After-index Inv-loop μ-loop) → c .index .result < 64
 own c = rw (c .index .ensures) (cell-at (c .before .before .before .before .before .args .t1) (c .before .before .before .loop .i) zeroCell (c .before .before .before .before .before .pre) (long (c .before .before .before .before .before)) (omega arith) .own)
 
 -- what the answer at cell i says
-entry : (c : tie.After-lacks-entry Inv-loop μ-loop) → (c .lacks-entry .result ≡ true) ↔ NoEntry (cellsOf (c .before .before .before .before .before .before .args .t1)) (cellAt (c .before .before .before .before .before .before .args .t1) (c .before .before .before .before .loop .i))
+entry : (c : tie.After-lacks-entry Inv-loop μ-loop) → (c .lacks-entry .result ≡ true) ↔ NoEntry (transientOf (c .before .before .before .before .before .before .args .t1)) (cellsOf (c .before .before .before .before .before .before .args .t1)) (cellAt (c .before .before .before .before .before .before .args .t1) (c .before .before .before .before .loop .i))
 entry c =
     let t = c .before .before .before .before .before .before .args .t1 in
     let i = c .before .before .before .before .loop .i in
-    let rows = c .before .before .before .before .before .carrier-rows .result in
+    let rows = c .before .before .before .before .before .staller-rows .result in
     let d = getD (t .cells) i zeroCell in
     let s = c .before .index .result in
     let e = long (c .before .before .before .before .before .before) in
-    subst (λ (x : Cell). (c .lacks-entry .result ≡ true) ↔ NoEntry (cellsOf t) (asRuleCell x)) (getD-within (t .cells) i zeroCell noCell (omega (arith, c .before .before .before .before .before .before .pre .few)))
+    subst (λ (x : Cell). (c .lacks-entry .result ≡ true) ↔ NoEntry (transientOf t) (cellsOf t) (asRuleCell x)) (getD-within (t .cells) i zeroCell noCell (omega (arith, c .before .before .before .before .before .before .pre .few)))
     (↔-trans (c .lacks-entry .ensures)
-    (no-entry-row (cellsOf t) (Bit (getD rows s 0)) (asRuleCell d)
-    (λ a. subst (λ (x : ℕ). Bit (getD rows x 0) a ↔ Carries (cellsOf t) a (d .state .0)) (sym (c .before .index .ensures)) (c .before .before .before .before .before .carrier-rows .ensures (d .state .0) a))))
+    (no-entry-row (transientOf t) (cellsOf t) (Bit (getD rows s 0)) (asRuleCell d)
+    (λ a. subst (λ (x : ℕ). Bit (getD rows x 0) a ↔ Staller (transientOf t) (cellsOf t) a (d .state .0)) (sym (c .before .index .ensures)) (c .before .before .before .before .before .staller-rows .ensures (d .state .0) a))))
 
-carrier-rows-requires : tie.Need-carrier-rows-requires Inv-loop μ-loop
-carrier-rows-requires c κs = c .pre
+staller-rows-requires : tie.Need-staller-rows-requires Inv-loop μ-loop
+staller-rows-requires c κs = c .pre
 
 loop-holds : tie.Need-loop-holds Inv-loop μ-loop
 loop-holds c = (search needs, λ k h. absurd (omega arith))
@@ -92,7 +92,7 @@ no-entry-spec =
     (tie.spec
     Inv-loop
     μ-loop
-    carrier-rows-requires
+    staller-rows-requires
     loop-holds
     mul-d
     element-copy-out-d

@@ -1,22 +1,22 @@
--- `waits::gather` meets its contract.
+-- `rows::gather::gather` meets its contract.
 use Prim.Native.Nat.{_-_}
 use mathlib.Core.Path.{_∙_}
 use native.Mathlib.Omega.{arith}
-use Rattle.waits.proofs.Waiting.{GatherInv, gather-start, gather-step, gather-end}
-use Rattle.waits.proofs.gather.Statement.{statement}
-use Rattle.waits.proofs.gather.Tie as tie
+use Rattle.rows.proofs.gather.Gathering.{GatherInv, gather-start, gather-step, gather-end}
+use Rattle.rows.proofs.gather.gather.Statement.{statement}
+use Rattle.rows.proofs.gather.gather.Tie as tie
 
 abbrev Inv-loop : tie.InvT-loop
-Inv-loop closed stalls n waits₀ a₀ waits a = GatherInv n closed stalls waits₀ waits a
+Inv-loop given sets n rows₀ a₀ rows a = GatherInv n given sets rows₀ rows a
 
 abbrev μ-loop : tie.MeasureT-loop
-μ-loop closed stalls n waits₀ a₀ waits a = n - a
+μ-loop given sets n rows₀ a₀ rows a = n - a
 
 clear-requires : tie.Need-clear-requires Inv-loop μ-loop
 clear-requires c κs = let p = c .before .before .before .before .pre in (p .0, p .3)
 
 loop-holds : tie.Need-loop-holds Inv-loop μ-loop
-loop-holds c = let a = c .before .before .before .before .before .before .before .args in gather-start (a .n) (a .closed .now) (a .stalls .now) _ (c .before .before .clear .ensures .none)
+loop-holds c = let a = c .before .before .before .before .before .before .before .args in gather-start (a .n) (a .given .now) (a .sets .now) _ (c .before .before .clear .ensures .none)
 
 mul-spread : tie.Need-mul-spread Inv-loop μ-loop
 mul-spread c = omega arith
@@ -47,7 +47,7 @@ loop-again c =
     let s = c .before .before .before .before .before .before .before .before .before .before .before .before .before .before .before in
     let l = c .before .before .before .before .before .before .before .loop in
     let sp = c .before .before .spread in
-    gather-step (s .args .n) (s .args .closed .now) (s .args .stalls .now) (c .before .before .before .before .before .before .before .before .before .before .clear .last .0) (l .waits) (l .a) (sp .last .1 .1 .0) (s .pre .4) (omega arith) (sp .ensures) (l .inv)
+    gather-step (s .args .n) (s .args .given .now) (s .args .sets .now) (c .before .before .before .before .before .before .before .before .before .before .clear .last .0) (l .rows) (l .a) (sp .last .1 .1 .0) (s .pre .4) (omega arith) (sp .ensures) (l .inv)
 
 same-length : tie.Need-same-length Inv-loop μ-loop
 same-length c = c .before .loop .inv .kept .long ∙ c .before .before .before .before .clear .ensures .kept .long
@@ -57,7 +57,7 @@ returns c =
     let s = c .before .before .before .before .before .before .before .before .before in
     let l = c .before .loop in
     let cl = c .before .before .before .before .clear in
-    gather-end (s .args .n) (s .args .closed .now) (s .args .stalls .now) (cl .last .0) (s .args .waits .now) (l .waits) (l .a) (omega arith) (cl .ensures .kept) (l .inv)
+    gather-end (s .args .n) (s .args .given .now) (s .args .sets .now) (cl .last .0) (s .args .rows .now) (l .rows) (l .a) (omega arith) (cl .ensures .kept) (l .inv)
 
 pub gather-spec : {M : Type 1} → statement M
 gather-spec =

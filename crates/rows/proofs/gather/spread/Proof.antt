@@ -1,19 +1,19 @@
--- `waits::spread` meets its contract.
+-- `rows::gather::spread` meets its contract.
 use native.Mathlib.Omega.{arith}
 use native.Mathlib.Nat.{pos-of-ne-zero}
 use borrow.Author.Needs.{needs}
-use Rattle.waits.proofs.Waiting.{SpreadInv, spread-start, spread-step, spread-end, spread-below}
-use Rattle.waits.proofs.spread.Statement.{statement}
-use Rattle.waits.proofs.spread.Tie as tie
+use Rattle.rows.proofs.gather.Gathering.{SpreadInv, spread-start, spread-step, spread-end, spread-below}
+use Rattle.rows.proofs.gather.spread.Statement.{statement}
+use Rattle.rows.proofs.gather.spread.Tie as tie
 
 abbrev Inv-loop : tie.InvT-loop
-Inv-loop row set waits₀ left₀ waits left = SpreadInv row set waits₀ waits left
+Inv-loop row set rows₀ left₀ rows left = SpreadInv row set rows₀ rows left
 
 abbrev μ-loop : tie.MeasureT-loop
-μ-loop row set waits₀ left₀ waits left = left
+μ-loop row set rows₀ left₀ rows left = left
 
 loop-holds : tie.Need-loop-holds Inv-loop μ-loop
-loop-holds c = let a = c .before .args in spread-start (a .row) (a .set) (a .waits .now)
+loop-holds c = let a = c .before .args in spread-start (a .row) (a .set) (a .rows .now)
 
 lowest-requires : tie.Need-lowest-requires Inv-loop μ-loop
 lowest-requires c κs = pos-of-ne-zero (c .loop-test .taken)
@@ -22,28 +22,28 @@ mul-join : tie.Need-mul-join Inv-loop μ-loop
 mul-join c =
     let l = c .before .before .loop in
     let s = c .before .before .before .before in
-    omega (arith, spread-below (s .args .row) (s .args .set) (s .args .waits .now) (l .waits) (l .left) (c .lowest .result) (s .pre) (c .lowest .ensures .bit) (l .inv))
+    omega (arith, spread-below (s .args .row) (s .args .set) (s .args .rows .now) (l .rows) (l .left) (c .lowest .result) (s .pre) (c .lowest .ensures .bit) (l .inv))
 
 slice-read-join : tie.Need-slice-read-join Inv-loop μ-loop
 slice-read-join c =
     let l = c .before .before .before .loop in
     let s = c .before .before .before .before .before in
-    spread-below (s .args .row) (s .args .set) (s .args .waits .now) (l .waits) (l .left) (c .before .lowest .result) (s .pre) (c .before .lowest .ensures .bit) (l .inv)
+    spread-below (s .args .row) (s .args .set) (s .args .rows .now) (l .rows) (l .left) (c .before .lowest .result) (s .pre) (c .before .lowest .ensures .bit) (l .inv)
 
 join-requires : tie.Need-join-requires Inv-loop μ-loop
 join-requires c κs = search needs
 
-mul-waits : tie.Need-mul-waits Inv-loop μ-loop
-mul-waits c =
+mul-rows : tie.Need-mul-rows Inv-loop μ-loop
+mul-rows c =
     let l = c .before .before .before .before .loop in
     let s = c .before .before .before .before .before .before in
-    omega (arith, spread-below (s .args .row) (s .args .set) (s .args .waits .now) (l .waits) (l .left) (c .before .before .lowest .result) (s .pre) (c .before .before .lowest .ensures .bit) (l .inv))
+    omega (arith, spread-below (s .args .row) (s .args .set) (s .args .rows .now) (l .rows) (l .left) (c .before .before .lowest .result) (s .pre) (c .before .before .lowest .ensures .bit) (l .inv))
 
-slice-write-waits : tie.Need-slice-write-waits Inv-loop μ-loop
-slice-write-waits c =
+slice-write-rows : tie.Need-slice-write-rows Inv-loop μ-loop
+slice-write-rows c =
     let l = c .before .before .before .before .loop in
     let s = c .before .before .before .before .before .before in
-    spread-below (s .args .row) (s .args .set) (s .args .waits .now) (l .waits) (l .left) (c .before .before .lowest .result) (s .pre) (c .before .before .lowest .ensures .bit) (l .inv)
+    spread-below (s .args .row) (s .args .set) (s .args .rows .now) (l .rows) (l .left) (c .before .before .lowest .result) (s .pre) (c .before .before .lowest .ensures .bit) (l .inv)
 
 without-lowest-requires : tie.Need-without-lowest-requires Inv-loop μ-loop
 without-lowest-requires c κs = pos-of-ne-zero (c .before .before .before .loop-test .taken)
@@ -55,7 +55,7 @@ loop-again : tie.Need-loop-again Inv-loop μ-loop
 loop-again c =
     let l = c .before .before .before .before .before .loop in
     let s = c .before .before .before .before .before .before .before in
-    spread-step (s .args .row) (s .args .set) (s .args .waits .now) (l .waits) (l .left) (c .before .before .before .lowest .result) (c .before .join .result) (c .without-lowest .result) (s .pre) (c .before .before .before .lowest .ensures .bit) (c .before .join .ensures) (c .without-lowest .ensures .cleared (c .before .before .before .lowest .result) (c .before .before .before .lowest .ensures)) (l .inv)
+    spread-step (s .args .row) (s .args .set) (s .args .rows .now) (l .rows) (l .left) (c .before .before .before .lowest .result) (c .before .join .result) (c .without-lowest .result) (s .pre) (c .before .before .before .lowest .ensures .bit) (c .before .join .ensures) (c .without-lowest .ensures .cleared (c .before .before .before .lowest .result) (c .before .before .before .lowest .ensures)) (l .inv)
 
 same-length : tie.Need-same-length Inv-loop μ-loop
 same-length c = c .before .loop .inv .long
@@ -64,7 +64,7 @@ returns : tie.Need-returns Inv-loop μ-loop
 returns c =
     let l = c .before .loop in
     let a = c .before .before .before .args in
-    spread-end (a .row) (a .set) (a .waits .now) (l .waits) (l .left) (c .loop-test .left) (l .inv)
+    spread-end (a .row) (a .set) (a .rows .now) (l .rows) (l .left) (c .loop-test .left) (l .inv)
 
 pub spread-spec : {M : Type 1} → statement M
 spread-spec =
@@ -77,8 +77,8 @@ spread-spec =
     mul-join
     slice-read-join
     join-requires
-    mul-waits
-    slice-write-waits
+    mul-rows
+    slice-write-rows
     without-lowest-requires
     loop-less
     loop-again

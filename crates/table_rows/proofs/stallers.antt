@@ -1,0 +1,2 @@
+pub mod AtCell
+pub mod Taking
