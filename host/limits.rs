@@ -3,6 +3,7 @@
 #![allow(dead_code)]
 
 use crate::second::{Message, Network, State};
+use std::collections::BTreeSet;
 
 /// What a built protocol has of everything.
 #[derive(Clone, Copy, Debug)]
@@ -170,15 +171,36 @@ fn sent_list(counts: &Counts, cell: usize, most: usize, extra_left: &mut usize) 
 
 /// A protocol with exactly the given waits: a pair (b, c) of different messages
 /// says that b waits for c. All names but the event's are long. Each message
-/// causes itself alone and has a state, which it enters by being sent; whoever
-/// waits for it stalls there. So there are as many states as messages, and there
-/// are at least two of them.
+/// causes itself alone. One that is waited for has a state, which it enters from
+/// the stable one by being sent; whoever waits for it stalls there. So at most 63
+/// messages are waited for.
 pub fn protocol_with_waits(count: usize, waits: &[(Message, Message)]) -> Vec<u8> {
-    let mut text = String::from("vn-protocol\t1\n");
-    for message in (0..count).map(Message) {
-        text.push_str(&format!("message\t{}\treq\n", message_name(message)));
+    let waited_for: BTreeSet<Message> = waits.iter().map(|(_, c)| *c).collect();
+    assert!(waited_for.len() < MOST.states, "there is room for the states");
+    let stable = long_name('B', 0);
+    let mut text = declared(count);
+    text.push_str(&format!("state\tcache\t{}\tstable\n", stable));
+    for message in &waited_for {
+        text.push_str(&format!("state\tcache\t{}\ttransient\n", state_of(*message)));
     }
-    text.push_str("event\te\n");
+    for message in &waited_for {
+        let (state, name) = (state_of(*message), message_name(*message));
+        text.push_str(&format!("cell\tcache\t{}\te\tgo\t{}\t{}\n", stable, state, name));
+    }
+    for name in (0..count).map(|number| message_name(Message(number))) {
+        text.push_str(&format!("cell\tcache\t{}\t{}\tgo\t{}\t{}\n", stable, name, stable, name));
+    }
+    push_stalls(&mut text, waits);
+    text.into_bytes()
+}
+
+/// Each message has a transient state, which it enters from that of the message
+/// after it by being sent, round in a ring, and causes itself alone. A pair (b, c)
+/// of different messages says that b is stalled in the state of c. Before request
+/// C-12 b waited for c alone; now all states of the ring are taken with that of c,
+/// and b waits for every message.
+pub fn ring_of_states(count: usize, stalled: &[(Message, Message)]) -> Vec<u8> {
+    let mut text = declared(count);
     for message in (0..count).map(Message) {
         text.push_str(&format!("state\tcache\t{}\ttransient\n", state_of(message)));
     }
@@ -188,14 +210,28 @@ pub fn protocol_with_waits(count: usize, waits: &[(Message, Message)]) -> Vec<u8
         text.push_str(&format!("cell\tcache\t{}\te\tgo\t{}\t{}\n", before, state, name));
         text.push_str(&format!("cell\tcache\t{}\t{}\tgo\t{}\t{}\n", state, name, state, name));
     }
-    for (b, c) in waits {
-        let (state, trigger) = (state_of(*c), message_name(*b));
-        text.push_str(&format!("cell\tcache\t{}\t{}\tstall\n", state, trigger));
-    }
+    push_stalls(&mut text, stalled);
     text.into_bytes()
 }
 
-/// The state that a message enters in `protocol_with_waits`.
+/// The header, so many messages, and the event e.
+fn declared(count: usize) -> String {
+    let mut text = String::from("vn-protocol\t1\n");
+    for message in (0..count).map(Message) {
+        text.push_str(&format!("message\t{}\treq\n", message_name(message)));
+    }
+    text.push_str("event\te\n");
+    text
+}
+
+/// The first of each pair is stalled in the state of the second.
+fn push_stalls(text: &mut String, stalled: &[(Message, Message)]) {
+    for (b, c) in stalled {
+        text.push_str(&format!("cell\tcache\t{}\t{}\tstall\n", state_of(*c), message_name(*b)));
+    }
+}
+
+/// The state that a message enters.
 fn state_of(message: Message) -> String {
     long_name('S', message.0)
 }
@@ -210,27 +246,44 @@ pub fn mapping_under(header: usize, mapping: &[Network]) -> Vec<u8> {
     text.into_bytes()
 }
 
-/// Class 3 with 64 networks and long names: message i waits for i + 1.
-pub fn longest_plan() -> Vec<u8> {
-    let waits: Vec<(Message, Message)> = (0..63).map(|i| (Message(i), Message(i + 1))).collect();
-    protocol_with_waits(64, &waits)
+/// Each message below a count and the one after it.
+pub fn in_a_row(count: usize) -> Vec<(Message, Message)> {
+    (1..count).map(|i| (Message(i - 1), Message(i))).collect()
 }
 
-/// Class 2 with a shown cycle of all 64 messages.
+/// The same, and the last one and the first.
+pub fn in_a_ring(count: usize) -> Vec<(Message, Message)> {
+    (0..count).map(|i| (Message(i), Message((i + 1) % count))).collect()
+}
+
+/// Class 3 with 64 networks and long names: message i waits for i + 1.
+pub fn longest_plan() -> Vec<u8> {
+    protocol_with_waits(64, &in_a_row(64))
+}
+
+/// Class 2 with a shown cycle of 63 messages, the longest since request C-12. In
+/// a cycle of 64 as many messages would wait for one each, and for no other. Each
+/// would be stalled in a state of its own, so that all 64 states were transient;
+/// and a state entered from a transient one has all the stallers of that one.
 pub fn longest_cycle() -> Vec<u8> {
-    let waits: Vec<(Message, Message)> =
-        (0..64).map(|i| (Message(i), Message((i + 1) % 64))).collect();
-    protocol_with_waits(64, &waits)
+    protocol_with_waits(64, &in_a_ring(63))
+}
+
+/// i and 32 + i, for i below 32; and a mapping under header 2 in which 32 + i
+/// shares a network with i + 1.
+pub fn across() -> (Vec<(Message, Message)>, Vec<u8>) {
+    let pairs = (0..32).map(|i| (Message(i), Message(32 + i))).collect();
+    let mut mapping: Vec<Network> = (0..32).map(Network).collect();
+    mapping.extend((0..32).map(|i| Network((i + 1) % 32)));
+    (pairs, mapping_under(2, &mapping))
 }
 
 /// A protocol and a mapping under header 2, unfit with 64 steps, waits and
 /// queues in turn: i waits for 32 + i, which shares a network with i + 1 and
 /// queues behind it.
 pub fn longest_unfit() -> (Vec<u8>, Vec<u8>) {
-    let waits: Vec<(Message, Message)> = (0..32).map(|i| (Message(i), Message(32 + i))).collect();
-    let mut mapping: Vec<Network> = (0..32).map(Network).collect();
-    mapping.extend((0..32).map(|i| Network((i + 1) % 32)));
-    (protocol_with_waits(64, &waits), mapping_under(2, &mapping))
+    let (pairs, mapping) = across();
+    (protocol_with_waits(64, &pairs), mapping)
 }
 
 /// A text of exactly this many bytes that starts as a mapping text. Only its

@@ -42,7 +42,9 @@ fn tasks() -> Vec<Task> {
         task("judge, all limits, 64 networks", limits::full(), Some(limits::mapping_under(2, &each_its_own))),
         task("judge, all limits, 2 networks", limits::full(), Some(limits::mapping_under(2, &two))),
         task("plan, 64 networks", limits::longest_plan(), None),
-        task("plan, cycle of 64", limits::longest_cycle(), None),
+        task("plan, cycle of 63", limits::longest_cycle(), None),
+        // All 64 states are taken with each of them.
+        task("plan, ring of 64 states", limits::ring_of_states(64, &limits::in_a_ring(64)), None),
         task("judge, fit", limits::longest_plan(), Some(limits::mapping_under(2, &each_its_own))),
         task("judge, 64 steps", unfit, Some(hung)),
         // The text of before request C-15.

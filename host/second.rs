@@ -1,7 +1,7 @@
 //! The second program.
 //!
 //! Written from the paper "The work to build and its rules" and the requests
-//! C-15 and C-23 alone, in plain loops, to be compared with the proved program.
+//! C-12, C-15 and C-23 alone, in plain loops, to be compared with the proved program.
 //! Rule numbers and refusal numbers in the comments are those of the paper.
 //!
 //! Everything here is plain, but for `fast`, a variant of the relations call

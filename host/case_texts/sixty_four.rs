@@ -57,17 +57,20 @@ fn far_pairs() -> Vec<Vec<u8>> {
     texts
 }
 
-/// All limits at once, a message more, and the longest listings.
+/// All limits at once, a message more, and what were the longest listings before
+/// request C-12.
 fn long_texts() -> Vec<Item> {
     let more = limits::one_more_of_each().into_iter().find(|past| past.limit == "messages");
-    let (unfit, hung) = limits::longest_unfit();
+    let (across, hung) = limits::across();
     let each_its_own: Vec<Network> = (0..64).map(Network).collect();
+    let row = limits::ring_of_states(64, &limits::in_a_row(64));
+    let ring = limits::ring_of_states(64, &limits::in_a_ring(64));
     vec![
         Item::Protocol(limits::full()),
         Item::Protocol(more.expect("one more message").text),
-        Item::Judge(limits::longest_plan(), limits::mapping_under(2, &each_its_own)),
-        Item::Judge(limits::longest_cycle(), limits::mapping_under(2, &each_its_own)),
-        Item::Judge(unfit, hung),
+        Item::Judge(row, limits::mapping_under(2, &each_its_own)),
+        Item::Judge(ring, limits::mapping_under(2, &each_its_own)),
+        Item::Judge(limits::ring_of_states(64, &across), hung),
         Item::Judge(text_of(&small()), limits::long_mapping(2, 49_152)),
         Item::Judge(text_of(&small()), limits::long_mapping(2, 49_153)),
     ]

@@ -7,6 +7,15 @@ use super::*;
 // ---------------------------------------------------------------------
 
 pub fn read_protocol(text: &[u8]) -> Result<Protocol, Refusal> {
+    let protocol = read_tables(text)?;
+    match first_line_without_entry(&protocol) {
+        Some(line) => Err(refusal(NO_ENTRY, PROTOCOL_PAPER, line)),
+        None => Ok(protocol),
+    }
+}
+
+/// All but the last refusal, 13.
+pub fn read_tables(text: &[u8]) -> Result<Protocol, Refusal> {
     let (_, lines) = lines_after_header(text, &[b"vn-protocol\t1"], PROTOCOL_PAPER)?;
     let mut protocol = Protocol::empty();
     for (place, content) in lines.iter().enumerate() {
@@ -18,9 +27,6 @@ pub fn read_protocol(text: &[u8]) -> Result<Protocol, Refusal> {
     }
     if protocol.messages.is_empty() {
         return Err(refusal(NO_MESSAGE, PROTOCOL_PAPER, 0));
-    }
-    if let Some(line) = first_line_without_entry(&protocol) {
-        return Err(refusal(NO_ENTRY, PROTOCOL_PAPER, line));
     }
     Ok(protocol)
 }
@@ -154,10 +160,12 @@ pub(super) fn conflict(earlier: &Cell, later: &Cell) -> bool {
 }
 
 /// "a stalled message in a state whose entries have no carrier; that cell's
-/// line, the first such" (refusal 13). A state without entries counts too.
+/// line, the first such" (refusal 13). Request C-12: "13 is now given when no
+/// taken state has a carrier; its place is unchanged." Without entries there is
+/// no carrier.
 pub(super) fn first_line_without_entry(protocol: &Protocol) -> Option<usize> {
     for cell in &protocol.cells {
-        if stalled_message(cell).is_some() && carriers_into(protocol, cell.state).is_empty() {
+        if stalled_message(cell).is_some() && stallers_in(protocol, cell.state).is_empty() {
             return Some(cell.line);
         }
     }

@@ -174,7 +174,7 @@ pub(super) fn carriers(cell: &Cell) -> BTreeSet<Message> {
 }
 
 /// The carriers of all cells that enter s.
-pub(super) fn carriers_into(protocol: &Protocol, s: State) -> BTreeSet<Message> {
+pub fn carriers_into(protocol: &Protocol, s: State) -> BTreeSet<Message> {
     let mut found = BTreeSet::new();
     for cell in &protocol.cells {
         if enters(cell, s) {
@@ -185,20 +185,62 @@ pub(super) fn carriers_into(protocol: &Protocol, s: State) -> BTreeSet<Message> 
 }
 
 /// The message that a `stall` cell stalls. "A stalled event gives no pair."
-pub(super) fn stalled_message(cell: &Cell) -> Option<Message> {
+pub fn stalled_message(cell: &Cell) -> Option<Message> {
     match (cell.trigger, &cell.outcome) {
         (Trigger::Message(message), Outcome::Stall) => Some(message),
         _ => None,
     }
 }
 
-/// Rule 3: "a stalls b when b has a `stall` cell in s and a is a carrier of
-/// some cell that enters s."
+/// Request C-12: "take s, and with each state taken also every transient state
+/// of that controller having a `go` cell into it." Goes through all cells again
+/// and again, until a round takes no state more. A cell's next is a state of its
+/// own controller, so no state of the other one is ever taken.
+pub fn taken_states(protocol: &Protocol, s: State) -> BTreeSet<State> {
+    let mut taken = BTreeSet::new();
+    taken.insert(s);
+    loop {
+        let before = taken.len();
+        for cell in &protocol.cells {
+            if let Outcome::Go { next, .. } = &cell.outcome {
+                if taken.contains(next) && protocol.kind_of(cell.state) == Kind::Transient {
+                    taken.insert(cell.state);
+                }
+            }
+        }
+        if taken.len() == before {
+            return taken;
+        }
+    }
+}
+
+/// "The stallers are the carriers of all cells that enter a taken state."
+pub fn stallers_in(protocol: &Protocol, s: State) -> BTreeSet<Message> {
+    let mut found = BTreeSet::new();
+    for taken in taken_states(protocol, s) {
+        found.extend(carriers_into(protocol, taken));
+    }
+    found
+}
+
+/// Rule 3, as request C-12 mends it: a stalls b when b has a `stall` cell in s
+/// and a is among the stallers there.
 pub fn stalls_of(protocol: &Protocol) -> Relation {
+    stalls_by(protocol, stallers_in)
+}
+
+/// Rule 3 as it was before request C-12: "a stalls b when b has a `stall` cell in
+/// s and a is a carrier of some cell that enters s." For tests.
+pub fn stalls_directly_of(protocol: &Protocol) -> Relation {
+    stalls_by(protocol, carriers_into)
+}
+
+/// Each stalled message, by all that are given for the state it is stalled in.
+fn stalls_by(protocol: &Protocol, given: fn(&Protocol, State) -> BTreeSet<Message>) -> Relation {
     let mut stalls = Relation::empty(protocol.messages.len());
     for cell in &protocol.cells {
         if let Some(b) = stalled_message(cell) {
-            for a in carriers_into(protocol, cell.state) {
+            for a in given(protocol, cell.state) {
                 stalls.add(a, b);
             }
         }

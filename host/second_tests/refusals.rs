@@ -220,9 +220,10 @@ fn longest_answers() {
     assert!(listing.starts_with(&tabbed(&["vn-plan>1", "class>3", "networks>64"])));
     // 54 of the 64 networks have two digits.
     assert_eq!(listing.len(), 30 + 64 * 31 + 54);
-    let ring: Vec<(usize, usize)> = (0..64).map(|i| (i, (i + 1) % 64)).collect();
+    // No cycle is longer than 63: see `limits::longest_cycle`.
+    let ring: Vec<(usize, usize)> = (0..63).map(|i| (i, (i + 1) % 63)).collect();
     let listing = plan(&protocol_with_waits(64, &ring)).unwrap();
-    assert_eq!(listing.len(), 18 + 5 + 64 * 25 + 1);
+    assert_eq!(listing.len(), 18 + 5 + 63 * 25 + 1);
     // Waits and queues in turn: i waits for 32 + i, which shares a network with
     // i + 1 and queues behind it.
     let across: Vec<(usize, usize)> = (0..32).map(|i| (i, 32 + i)).collect();
