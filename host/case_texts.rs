@@ -585,7 +585,7 @@ fn a_few_random() -> Vec<Item> {
     let mut random = Random::new(1);
     let mut items = Vec::new();
     while items.len() < 100 {
-        let whole = random::protocol_text_of(&mut random, 32);
+        let whole = random::older_protocol_text(&mut random, 32);
         let text = if random.chance(1, 2) { random::damage_around(32, &mut random, &whole) } else { whole };
         if text.len() < 800 {
             let mapping = random::mapping_text_under(1, &mut random, &text);

@@ -9,11 +9,13 @@
 
 #![allow(dead_code, unused_imports)]
 
+mod chains;
 mod damage;
 
 pub use damage::*;
 
-use crate::second::{Form, Message, Network, State, MOST_MESSAGES, SECOND_FORM};
+use crate::second::{Form, Message, Network, State, MOST_MESSAGES, MOST_STATES, SECOND_FORM};
+use chains::{Entry, Link};
 use std::collections::{BTreeMap, BTreeSet};
 
 pub struct Random {
@@ -323,6 +325,17 @@ struct DraftState {
     transient: bool,
 }
 
+/// Messages send only later ones and are stalled only by later ones or
+/// themselves: then the waits have no cycle.
+#[derive(Clone, Copy, PartialEq, Eq)]
+enum Layered {
+    No,
+    /// By rule 3 as it was before request C-12.
+    ByEntries,
+    /// By the mended rule.
+    ByTaken,
+}
+
 /// A protocol on its way.
 struct Draft {
     messages: Vec<String>,
@@ -331,11 +344,14 @@ struct Draft {
     cells: Vec<String>,
     /// Is there a stall at this state and trigger (else only `go`)?
     places: BTreeMap<(State, String), bool>,
-    /// The lowest carrier of the cells that enter a state.
-    lowest_carrier: BTreeMap<State, Message>,
-    /// Messages send only later ones and are stalled only by later ones or
-    /// themselves: then the waits have no cycle.
-    layered: bool,
+    /// The cells so far that enter a state.
+    entries: Vec<Entry>,
+    layered: Layered,
+    /// None but in a draft with chains.
+    links: Vec<Link>,
+    /// Stallers are those of before request C-12, so that a text of then is drawn
+    /// once more.
+    older: bool,
 }
 
 impl Draft {
@@ -366,24 +382,39 @@ fn draft_up_to(random: &mut Random, most_messages: usize, most_events: usize, mo
     let event_count = random.below(most_events + 1);
     let messages = fresh_names(random, message_count, &mut taken);
     let events = fresh_names(random, event_count, &mut taken);
-    let mut states = Vec::new();
-    let (mut cache_names, mut dir_names) = (BTreeSet::new(), BTreeSet::new());
-    for _ in 0..random.between(1, most_states) {
-        let on_cache = random.chance(1, 2);
-        let taken = if on_cache { &mut cache_names } else { &mut dir_names };
-        let name = fresh_names(random, 1, taken).remove(0);
-        let controller = if on_cache { "cache" } else { "dir" };
-        states.push(DraftState { controller, name, transient: random.chance(2, 3) });
-    }
+    let state_count = random.between(1, most_states);
+    let states = draft_states(random, state_count, (1, 2), (2, 3));
+    let layered = if random.chance(1, 2) { Layered::ByTaken } else { Layered::No };
     Draft {
         messages,
         events,
         states,
         cells: Vec::new(),
         places: BTreeMap::new(),
-        lowest_carrier: BTreeMap::new(),
-        layered: random.chance(1, 2),
+        entries: Vec::new(),
+        layered,
+        links: Vec::new(),
+        older: false,
     }
+}
+
+/// States on `cache` and transient ones, each so many times out of so many.
+fn draft_states(
+    random: &mut Random,
+    count: usize,
+    on_cache: (usize, usize),
+    transient: (usize, usize),
+) -> Vec<DraftState> {
+    let (mut cache_names, mut dir_names) = (BTreeSet::new(), BTreeSet::new());
+    let mut states = Vec::new();
+    for _ in 0..count {
+        let on_cache = random.chance(on_cache.0, on_cache.1);
+        let taken = if on_cache { &mut cache_names } else { &mut dir_names };
+        let name = fresh_names(random, 1, taken).remove(0);
+        let controller = if on_cache { "cache" } else { "dir" };
+        states.push(DraftState { controller, name, transient: random.chance(transient.0, transient.1) });
+    }
+    states
 }
 
 /// A trigger for the state: its name, and its number if it is a message.
@@ -399,7 +430,7 @@ fn draft_trigger(random: &mut Random, draft: &Draft, state: State) -> (String, O
 fn draft_sent(random: &mut Random, draft: &Draft, trigger: Option<Message>) -> Vec<Message> {
     let count = draft.messages.len();
     let first = match trigger {
-        Some(message) if draft.layered => message.0 + 1,
+        Some(message) if draft.layered != Layered::No => message.0 + 1,
         _ => 0,
     };
     if first == count {
@@ -409,22 +440,33 @@ fn draft_sent(random: &mut Random, draft: &Draft, trigger: Option<Message>) -> V
     (0..sent_count).map(|_| Message(random.between(first, count - 1))).collect()
 }
 
-fn draft_go(random: &mut Random, draft: &mut Draft) {
+/// A state and its next, without any plan.
+fn draft_link(random: &mut Random, draft: &Draft) -> Link {
     let state = State(random.below(draft.states.len()));
-    let controller = draft.state(state).controller;
-    let next = *random.pick(&draft.states_of(controller));
-    let (trigger, message) = draft_trigger(random, draft, state);
+    let next = *random.pick(&draft.states_of(draft.state(state).controller));
+    Link { state, next, quiet: false }
+}
+
+fn draft_go(random: &mut Random, draft: &mut Draft) {
+    let Link { state, next, quiet } = match draft.pick_link(random) {
+        Some(link) => link,
+        None => draft_link(random, draft),
+    };
+    let (trigger, message) = match quiet {
+        true => (random.pick(&draft.events).clone(), None),
+        false => draft_trigger(random, draft, state),
+    };
     let place = (state, trigger.clone());
     if draft.places.get(&place) == Some(&true) && !random.chance(1, 200) {
         return;
     }
-    let sent = draft_sent(random, draft, message);
-    let lowest = message.or_else(|| sent.iter().min().copied());
-    if let (true, Some(carrier)) = (next != state, lowest) {
-        let known = draft.lowest_carrier.entry(next).or_insert(carrier);
-        *known = carrier.min(*known);
+    let sent = if quiet { Vec::new() } else { draft_sent(random, draft, message) };
+    if next != state {
+        let lowest = message.or_else(|| sent.iter().min().copied());
+        draft.entries.push(Entry { state, next, lowest });
     }
-    let mut line = format!("cell\t{}\t{}\t{}", controller, draft.state(state).name, trigger);
+    let DraftState { controller, name, .. } = draft.state(state);
+    let mut line = format!("cell\t{}\t{}\t{}", controller, name, trigger);
     line.push_str(&format!("\tgo\t{}", draft.state(next).name));
     for message in sent {
         line.push_str(&format!("\t{}", draft.messages[message.0]));
@@ -433,18 +475,25 @@ fn draft_go(random: &mut Random, draft: &mut Draft) {
     draft.cells.push(line);
 }
 
-/// A stall where one is right; rarely anywhere.
+/// A stall where one is right; rarely anywhere, and in a draft with chains less
+/// rarely in a state where nothing stalls it.
 fn draft_stall(random: &mut Random, draft: &mut Draft) {
     let state = State(random.below(draft.states.len()));
     let (trigger, message) = draft_trigger(random, draft, state);
     let place = (state, trigger.clone());
-    let carried = match (message, draft.lowest_carrier.get(&state)) {
-        (None, _) => true,
-        (Some(_), None) => false,
-        (Some(message), Some(carrier)) => !draft.layered || message <= *carrier,
+    let staller = draft.lowest_staller(state);
+    let lowest = match draft.layered {
+        Layered::No => None,
+        Layered::ByEntries => draft.lowest_carrier(state),
+        Layered::ByTaken => staller,
     };
-    let right = draft.state(state).transient && !draft.places.contains_key(&place) && carried;
-    if !right && !random.chance(1, 200) {
+    let stalled = match message {
+        None => true,
+        Some(message) => staller.is_some() && lowest.map_or(true, |lowest| message <= lowest),
+    };
+    let right = draft.state(state).transient && !draft.places.contains_key(&place) && stalled;
+    let rarely = if draft.links.is_empty() || staller.is_some() { 200 } else { 40 };
+    if !right && !random.chance(1, rarely) {
         return;
     }
     let DraftState { controller, name, .. } = draft.state(state);
@@ -455,22 +504,44 @@ fn draft_stall(random: &mut Random, draft: &mut Draft) {
 
 /// A protocol text that is accepted most of the time.
 pub fn protocol_text(random: &mut Random) -> Vec<u8> {
-    protocol_text_of(random, MOST_MESSAGES)
+    let draft = draft_names(random, MOST_MESSAGES);
+    loose_or_chained(random, draft)
 }
 
-/// The same with at most so many messages.
-pub fn protocol_text_of(random: &mut Random, most_messages: usize) -> Vec<u8> {
-    let draft = draft_names(random, most_messages);
+/// The same, with at most so many messages, as it was drawn before request C-12.
+pub fn older_protocol_text(random: &mut Random, most_messages: usize) -> Vec<u8> {
+    let draft = Draft { older: true, ..draft_names(random, most_messages) };
+    loose_text(random, draft)
+}
+
+fn loose_or_chained(random: &mut Random, draft: Draft) -> Vec<u8> {
+    if random.chance(1, 2) {
+        return loose_text(random, draft);
+    }
+    let draft = chains::with_chains(random, draft);
+    let goes = draft.links.len() + random.below(2 * draft.links.len() + 10);
+    let stalls = random.below(60);
+    drafted_text(random, draft, goes, stalls)
+}
+
+fn loose_text(random: &mut Random, draft: Draft) -> Vec<u8> {
     let most_goes = if random.chance(1, 20) { 300 } else { 30 };
     let goes = random.below(most_goes);
     let stalls = random.below(60);
     drafted_text(random, draft, goes, stalls)
 }
 
-/// The same with few messages, states and cells, for tests that read very
+/// A protocol text with few messages, states and cells, for tests that read very
 /// many texts.
 pub fn small_protocol_text(random: &mut Random) -> Vec<u8> {
     let most = if random.chance(1, 8) { 12 } else { 5 };
+    if random.chance(2, 3) {
+        let draft = draft_up_to(random, most + 3, 3, most);
+        let draft = chains::with_chains(random, draft);
+        let goes = random.between(draft.links.len(), 3 * draft.links.len() + 2);
+        let stalls = random.below(6 * most);
+        return drafted_text(random, draft, goes, stalls);
+    }
     let draft = draft_up_to(random, most, 3, most);
     let goes = random.between(most / 2, 2 * most);
     let stalls = random.below(3 * most);
@@ -480,9 +551,7 @@ pub fn small_protocol_text(random: &mut Random) -> Vec<u8> {
 /// The same with up to 64 messages, for mappings of many lines.
 pub fn wide_protocol_text(random: &mut Random) -> Vec<u8> {
     let draft = draft_up_to(random, MOST_MESSAGES, 2, 8);
-    let goes = random.below(40);
-    let stalls = random.below(60);
-    drafted_text(random, draft, goes, stalls)
+    loose_or_chained(random, draft)
 }
 
 fn drafted_text(random: &mut Random, mut draft: Draft, goes: usize, stalls: usize) -> Vec<u8> {

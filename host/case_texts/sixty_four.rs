@@ -173,7 +173,7 @@ fn a_few_random() -> Vec<Item> {
     let mut items = Vec::new();
     while items.len() < 100 {
         let many = items.len() % 2 == 0;
-        let whole = random::protocol_text(&mut random);
+        let whole = random::older_protocol_text(&mut random, 64);
         if (random::message_names(&whole).len() > 32) != many || whole.len() > 3_000 {
             continue;
         }
