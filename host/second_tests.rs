@@ -15,6 +15,8 @@ mod joins;
 mod mappings;
 #[path = "second_tests/refusals.rs"]
 mod refusals;
+#[path = "second_tests/stallers.rs"]
+mod stallers;
 
 use random::Random;
 use second::*;

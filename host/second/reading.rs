@@ -163,7 +163,7 @@ pub(super) fn conflict(earlier: &Cell, later: &Cell) -> bool {
 /// line, the first such" (refusal 13). Request C-12: "13 is now given when no
 /// taken state has a carrier; its place is unchanged." Without entries there is
 /// no carrier.
-pub(super) fn first_line_without_entry(protocol: &Protocol) -> Option<usize> {
+pub fn first_line_without_entry(protocol: &Protocol) -> Option<usize> {
     for cell in &protocol.cells {
         if stalled_message(cell).is_some() && stallers_in(protocol, cell.state).is_empty() {
             return Some(cell.line);
