@@ -291,6 +291,7 @@ fn real_protocols_by_both_rules() {
         ("msi_blocking_cache", 0, 0),
         ("msi_nonblocking_cache", 2, 2),
         ("msi_only_inv_stalls", 2, 2),
+        ("msi_stall_in_A_only", 3, 0),
         ("protogen_msi_nonstalling", 2, 2),
     ];
     for (name, old, mended) in right {
@@ -298,6 +299,21 @@ fn real_protocols_by_both_rules() {
         let protocol = read_protocol(&text).unwrap();
         let found = (networks_by(&protocol, stalls_directly_of), networks_by(&protocol, stalls_of));
         assert_eq!(found, (old, mended), "{}", name);
+    }
+}
+
+/// Two mappings of examples/ are those that the plan printed by the old rule. By
+/// the mended rule they are unfit.
+#[test]
+fn mappings_of_the_old_rule() {
+    for (name, word) in [("msi_stall_in_A_only", "old"), ("chi_47", "four")] {
+        let protocol = read_protocol(&fs::read(format!("examples/{}.tsv", name)).unwrap()).unwrap();
+        let text = fs::read(format!("examples/{}.{}.mapping.tsv", name, word)).unwrap();
+        let mapping = read_mapping(&text, &protocol.message_names()).unwrap();
+        let (causes, old, mended) = (causes_of(&protocol), stalls_directly_of(&protocol), stalls_of(&protocol));
+        assert_eq!(printed_mapping(&waits_of(&causes, &old)), mapping, "{}", name);
+        assert_eq!(verdict_of(&waits_of(&causes, &old), &old, &mapping), Verdict::Fit, "{}", name);
+        assert_ne!(verdict_of(&waits_of(&causes, &mended), &mended, &mapping), Verdict::Fit, "{}", name);
     }
 }
 
