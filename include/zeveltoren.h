@@ -213,7 +213,7 @@ static inline void vn_set_pair64(uint8_t *table, unsigned from, unsigned to)
 #define VN_STALL_STABLE 10 /* a stall in a stable state */
 #define VN_CONFLICT 11     /* two cells at one place, one of them a stall */
 #define VN_NO_MESSAGE 12   /* there is no message; line 0 */
-#define VN_NO_ENTRY 13     /* a message is stalled where no message leads */
+#define VN_NO_ENTRY 13     /* a message is stalled, and no taken state has a carrier */
 #define VN_UNMATCHED 14    /* mapping: another message than the next, or too few or too many */
 #define VN_NETWORK 15      /* mapping: no network number, or above 31 under
                               header 1, above 63 under header 2 */

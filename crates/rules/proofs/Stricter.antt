@@ -4,7 +4,7 @@ use mathlib.Core.Path.{refl, sym, subst}
 use mathlib.Core.Logic.{inl, inr}
 use mathlib.Core.List.{List, [], _∷_, _++_}
 use Rattle.rules.specs.Walks.{Rel, Somewhere}
-use Rattle.rules.specs.Rules.{Relations, Mapping, Waits, Queues, Step, Unfit, Fit, WaitsCycle}
+use Rattle.rules.specs.Rules.{Relations, Mapping, Waits, Queues, Step, Unfit}
 use Rattle.rules.specs.Plan.{Uses}
 use Rattle.rules.specs.Promises.{Stricter, NeverFewer, StillFit, OldPairsRemain, OldEntriesRemain}
 use Rattle.rules.proofs.Chains.{chain-map, plus-map}

@@ -10,11 +10,7 @@ use tables::Stability;
 use tables::Tables;
 
 // Rule 3 at one cell: the rows with where d leads, if its state is transient.
-fn with_leading(
-    rows: [u64; tables::STATES],
-    own: Stability,
-    d: Cell,
-) -> [u64; tables::STATES]
+fn with_leading(rows: [u64; tables::STATES], own: Stability, d: Cell) -> [u64; tables::STATES]
     requires { ⌜ CellOk 64 8 64 d ⌝ }
     ensures { λ r. ⌜ Adds (CellLeads (isTransient own) (asRuleCell d)) rows r ⌝ }
 {

@@ -1,13 +1,12 @@
 -- The rows of waits: what the loops keep, and that the rows are those of rule 4.
 use Prim.Native.Nat.{ℕ, zero, suc, _+_, _*_, _<_, _≤_}
-use mathlib.Core.Path.{_≡_, refl, sym, subst, _∙_}
-use mathlib.Core.Logic.{_⊎_, inl, inr, ⊎-elim, _↔_}
+use mathlib.Core.Path.{_≡_, refl, subst}
+use mathlib.Core.Logic.{inl, inr, _↔_}
 use mathlib.Core.List.{List}
 use native.Mathlib.Numerals.{add-one}
 use native.Mathlib.Decide.{ℕ-discrete}
 use native.Mathlib.Omega.{arith}
-use lib.ListN.{length, getD, set, length-set}
-use lib.Seq.{getD-set-same, getD-set-other}
+use lib.ListN.{getD}
 use Rattle.rules.specs.Walks.{Plus}
 use Rattle.rules.specs.Rules.{Waits}
 use Rattle.rules.specs.Plan.{Counts, Pairs}
@@ -15,9 +14,8 @@ use Rattle.rules.proofs.Chains.{plus-map}
 use Rattle.rules.proofs.Same.{counts-map}
 use Rattle.rules.proofs.Decided.{waits-within}
 use Rattle.rows.specs.Rows.{Bit, Rows, ofRows}
-use Rattle.rows.specs.Row.{Without, Join, Ones}
-use Rattle.rows.specs.Closure.{RowStep, KeptFrom, Closure}
-use Rattle.rows.proofs.Bits.{bit?, bit-zero}
+use Rattle.rows.specs.Row.{Ones}
+use Rattle.rows.specs.Closure.{RowStep, Closure}
 use Rattle.rows.proofs.Given.{rows-accepted}
 use Rattle.rows.proofs.Counting.{counts-le}
 use Rattle.rows.specs.Gather.{Tidy, Gathered}

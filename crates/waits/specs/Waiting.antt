@@ -1,9 +1,8 @@
 -- The rows of waits.
 use Prim.Native.Nat.{ℕ, _<_}
-use mathlib.Core.Path.{_≡_}
 use mathlib.Core.Logic.{_↔_}
 use mathlib.Core.List.{List}
-use lib.ListN.{length, getD, replicate}
+use lib.ListN.{getD, replicate}
 use Rattle.rules.specs.Rules.{Waits}
 use Rattle.rules.specs.Plan.{Pairs}
 use Rattle.rows.specs.Rows.{Bit, Rows, ofRows}

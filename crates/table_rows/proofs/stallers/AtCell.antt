@@ -37,6 +37,6 @@ module _ (d : Cell) where
 pub leads-cells : (transient : ℕ → Bool) (cells : List RuleCell) (r s : ℕ) → Some (λ c. CellLeads (transient (c .state)) c r s) cells ↔ LeadsInto transient cells r s
 leads-cells transient cells r s = (
   λ h. let u = some-get (λ c. CellLeads (transient (c .state)) c r s) cells h in
-    (subst (λ (x : ℕ). transient x ≡ true) (u .1 .1) (u .1 .0), u .2 (GoesInto r s) (u .1 .1, u .1 .2)),
+      (subst (λ (x : ℕ). transient x ≡ true) (u .1 .1) (u .1 .0), u .2 (GoesInto r s) (u .1 .1, u .1 .2)),
   λ l. some-map (GoesInto r s) (λ c. CellLeads (transient (c .state)) c r s) (λ c q. (subst (λ (x : ℕ). transient x ≡ true) (sym (q .0)) (l .0), q .0, q .1)) cells (l .1),
 )

@@ -1,13 +1,13 @@
 -- The states that are taken, and their carriers joined.
 use Prim.Native.Nat.{ℕ, _<_}
-use mathlib.Core.Path.{_≡_, sym, subst, _∙_}
+use mathlib.Core.Path.{sym, subst, _∙_}
 use mathlib.Core.Logic.{inl, inr, ⊎-elim, _↔_}
 use mathlib.Core.List.{List}
 use native.Mathlib.Decide.{decLt}
 use native.Mathlib.Omega.{arith}
 use lib.ListN.{getD, replicate}
 use Rattle.rules.specs.Walks.{Plus}
-use Rattle.rules.specs.Rules.{LeadsInto, Taken, Staller, Carries}
+use Rattle.rules.specs.Rules.{LeadsInto, Taken, Staller}
 use Rattle.rules.proofs.Chains.{plus-map}
 use Rattle.rules.proofs.Decided.{plus-end}
 use Rattle.rows.specs.Rows.{Bit}
