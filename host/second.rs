@@ -1,7 +1,8 @@
 //! The second program.
 //!
 //! Written from the paper "The work to build and its rules" and the requests
-//! C-12, C-15 and C-23 alone, in plain loops, to be compared with the proved program.
+//! C-12, C-14, C-15 and C-23 alone, in plain loops, to be compared with the proved
+//! program.
 //! Rule numbers and refusal numbers in the comments are those of the paper.
 //!
 //! Everything here is plain, but for `fast`, a variant of the relations call
@@ -96,14 +97,41 @@ pub const STRAY: u64 = 18;
 pub const PROTOCOL_PAPER: u64 = 0;
 pub const MAPPING_PAPER: u64 = 1;
 
-/// "A refusal returns number, paper, line". Lines count from 1.
+/// "A refusal returns number, paper, line", and by request C-14 the field. Lines
+/// and fields count from 1.
 #[derive(Clone, Copy, Debug, PartialEq, Eq)]
 pub struct Refusal {
     pub number: u64,
     pub paper: u64,
     pub line: u64,
+    pub field: u64,
 }
 
+/// "0 where the whole line or text is meant"
+const WHOLE_LINE: usize = 0;
+
+/// Of a whole line or text.
 fn refusal(number: u64, paper: u64, line: usize) -> Refusal {
-    Refusal { number, paper, line: line as u64 }
+    Fault::of_line(number).refusal(paper, line)
+}
+
+/// What a line is refused for: the number and the field.
+#[derive(Clone, Copy, Debug, PartialEq, Eq)]
+pub(crate) struct Fault {
+    number: u64,
+    field: usize,
+}
+
+impl Fault {
+    fn of_field(number: u64, field: usize) -> Fault {
+        Fault { number, field }
+    }
+
+    fn of_line(number: u64) -> Fault {
+        Fault { number, field: WHOLE_LINE }
+    }
+
+    fn refusal(self, paper: u64, line: usize) -> Refusal {
+        Refusal { number: self.number, paper, line: line as u64, field: self.field as u64 }
+    }
 }

@@ -7,6 +7,8 @@ mod limits;
 mod random;
 mod second;
 
+#[path = "second_tests/fields.rs"]
+mod fields;
 #[path = "second_tests/forms.rs"]
 mod forms;
 #[path = "second_tests/joins.rs"]
@@ -116,8 +118,13 @@ fn judged(numbers: [usize; 4]) -> Vec<u8> {
     judge(&bell(), &bell_mapping(numbers)).unwrap()
 }
 
+/// Of a whole line or text.
 fn refused(number: u64, paper: u64, line: u64) -> Result<Listing, Refusal> {
-    Err(Refusal { number, paper, line })
+    refused_at(number, paper, line, 0)
+}
+
+fn refused_at(number: u64, paper: u64, line: u64, field: u64) -> Result<Listing, Refusal> {
+    Err(Refusal { number, paper, line, field })
 }
 
 /// A protocol with long names and exactly these waits of different messages.
@@ -183,8 +190,13 @@ fn cases_11_to_14() {
 #[test]
 fn refusals_as_printed() {
     let empty = plan(b"");
-    assert_eq!(printed(&empty), b"refused\t3\t0\t1\n");
-    assert_eq!(printed(&judge(&bell(), b"")), b"refused\t3\t1\t1\n");
+    assert_eq!(printed(&empty), b"refused\t3\t0\t1\t0\n");
+    assert_eq!(printed(&judge(&bell(), b"")), b"refused\t3\t1\t1\t0\n");
+    let unknown = bell_and(&["cell>cache>I>load>go>I>Ask>Ask>Ask>Ask>Ask>Ask>Ask>load"]);
+    assert_eq!(printed(&plan(&unknown)), b"refused\t7\t0\t18\t14\n");
+    assert_eq!(printed(&judge(&unknown, b"")), b"refused\t7\t0\t18\t14\n");
+    let another = tabbed(&["vn-mapping>1", "map>Pass>0"]);
+    assert_eq!(printed(&judge(&bell(), &another)), b"refused\t14\t1\t2\t2\n");
     assert_eq!(printed(&plan(&bell())), plan(&bell()).unwrap());
 }
 
@@ -430,6 +442,10 @@ fn packed_numbers() {
     assert_eq!((short.length, short.needed, short.bytes.len()), (0, length as u64, 0));
     let refused = judge_with_room(&bell(), b"x", 0);
     assert_eq!(refused.packed(), (1 << 16) + (1 << 8) + 2);
+    let refused = plan_with_room(&bell_and(&["cell>dir>Free>load>go>Free"]), 0);
+    assert_eq!(refused.packed(), (4 << 48) + (18 << 16) + 7);
+    let refused = judge_with_room(&bell(), b"vn-mapping\t1\nmap\tAsk\t32\n", 99);
+    assert_eq!(refused.packed(), (3 << 48) + (2 << 16) + (1 << 8) + 15);
 }
 
 // ---------------------------------------------------------------------

@@ -81,7 +81,7 @@ pub fn judge(protocol_text: &[u8], mapping_text: &[u8]) -> Result<Listing, Refus
     Ok(judge_listing(&names, &verdict_of(&waits, &stalls, &mapping)))
 }
 
-/// What a program prints: the listing, or `refused` number paper line.
+/// What a program prints: the listing, or `refused` number paper line field.
 pub fn printed(result: &Result<Listing, Refusal>) -> Vec<u8> {
     match result {
         Ok(listing) => listing.clone(),
@@ -90,7 +90,8 @@ pub fn printed(result: &Result<Listing, Refusal>) -> Vec<u8> {
             let number = decimal(refused.number as usize);
             let paper = decimal(refused.paper as usize);
             let place = decimal(refused.line as usize);
-            push_line(&mut line, &[b"refused", &number, &paper, &place]);
+            let field = decimal(refused.field as usize);
+            push_line(&mut line, &[b"refused", &number, &paper, &place, &field]);
             line
         }
     }
@@ -102,6 +103,7 @@ pub struct TextAnswer {
     pub number: u64,
     pub paper: u64,
     pub line: u64,
+    pub field: u64,
     pub length: u64,
     pub needed: u64,
     pub bytes: Vec<u8>,
@@ -109,10 +111,11 @@ pub struct TextAnswer {
 
 impl TextAnswer {
     /// Bits 0 to 7 the refusal number, 8 to 15 the paper, 16 to 31 the line,
-    /// 32 to 47 the length (with 16: the length needed), the rest 0.
+    /// 32 to 47 the length (with 16: the length needed), 48 to 55 the field, the
+    /// rest 0.
     pub fn packed(&self) -> u64 {
         let length = if self.number == ROOM { self.needed } else { self.length };
-        self.number + (self.paper << 8) + (self.line << 16) + (length << 32)
+        self.number + (self.paper << 8) + (self.line << 16) + (length << 32) + (self.field << 48)
     }
 }
 
@@ -128,12 +131,13 @@ pub fn judge_with_room(protocol_text: &[u8], mapping_text: &[u8], room: usize) -
 /// output". "ROOM also returns the length needed".
 pub fn with_room(result: Result<Listing, Refusal>, room: usize) -> TextAnswer {
     let mut answer =
-        TextAnswer { number: 0, paper: 0, line: 0, length: 0, needed: 0, bytes: Vec::new() };
+        TextAnswer { number: 0, paper: 0, line: 0, field: 0, length: 0, needed: 0, bytes: Vec::new() };
     match result {
         Err(refused) => {
             answer.number = refused.number;
             answer.paper = refused.paper;
             answer.line = refused.line;
+            answer.field = refused.field;
         }
         Ok(listing) if listing.len() > room => {
             answer.number = ROOM;

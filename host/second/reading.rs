@@ -21,8 +21,8 @@ pub fn read_tables(text: &[u8]) -> Result<Protocol, Refusal> {
     for (place, content) in lines.iter().enumerate() {
         // The header is line 1.
         let line = place + 2;
-        if let Err(number) = read_line(&mut protocol, content, line) {
-            return Err(refusal(number, PROTOCOL_PAPER, line));
+        if let Err(fault) = read_line(&mut protocol, content, line) {
+            return Err(fault.refusal(PROTOCOL_PAPER, line));
         }
     }
     if protocol.messages.is_empty() {
@@ -32,16 +32,17 @@ pub fn read_tables(text: &[u8]) -> Result<Protocol, Refusal> {
 }
 
 /// Reads one line, or gives the smallest refusal number that applies to it:
-/// the checks below and in the four functions stand in rising order.
-pub(super) fn read_line(protocol: &mut Protocol, content: &[u8], line: usize) -> Result<(), u64> {
+/// the checks below and in the four functions stand in rising order. "With several
+/// bad fields of the same refusal, the first is told."
+pub(super) fn read_line(protocol: &mut Protocol, content: &[u8], line: usize) -> Result<(), Fault> {
     let fields = split_fields(content);
     let record = match read_record(&fields) {
         Some(record) => record,
-        None => return Err(SHAPE),
+        None => return Err(shape_fault(&fields)),
     };
     let section = section_of(&record);
     if section < protocol.section {
-        return Err(ORDER);
+        return Err(Fault::of_line(ORDER));
     }
     protocol.section = section;
     match record {
@@ -66,88 +67,90 @@ pub(super) fn is_message_or_event(protocol: &Protocol, name: &[u8]) -> bool {
     protocol.find_message(name).is_some() || protocol.find_event(name).is_some()
 }
 
-pub(super) fn add_message(protocol: &mut Protocol, name: &[u8], message_type: MessageType) -> Result<(), u64> {
+/// `message` name type
+pub(super) fn add_message(protocol: &mut Protocol, name: &[u8], message_type: MessageType) -> Result<(), Fault> {
     if !is_name(name) {
-        return Err(NAME);
+        return Err(Fault::of_field(NAME, 2));
     }
     if is_message_or_event(protocol, name) {
-        return Err(TWICE);
+        return Err(Fault::of_field(TWICE, 2));
     }
     if protocol.messages.len() == MOST_MESSAGES {
-        return Err(FULL);
+        return Err(Fault::of_line(FULL));
     }
     protocol.messages.push(MessageRow { name: name.to_vec(), message_type });
     Ok(())
 }
 
-pub(super) fn add_event(protocol: &mut Protocol, name: &[u8]) -> Result<(), u64> {
+/// `event` name
+pub(super) fn add_event(protocol: &mut Protocol, name: &[u8]) -> Result<(), Fault> {
     if !is_name(name) {
-        return Err(NAME);
+        return Err(Fault::of_field(NAME, 2));
     }
     if is_message_or_event(protocol, name) {
-        return Err(TWICE);
+        return Err(Fault::of_field(TWICE, 2));
     }
     if protocol.events.len() == MOST_EVENTS {
-        return Err(FULL);
+        return Err(Fault::of_line(FULL));
     }
     protocol.events.push(name.to_vec());
     Ok(())
 }
 
+/// `state` controller name kind
 pub(super) fn add_state(
     protocol: &mut Protocol,
     controller: Controller,
     name: &[u8],
     kind: Kind,
-) -> Result<(), u64> {
+) -> Result<(), Fault> {
     if !is_name(name) {
-        return Err(NAME);
+        return Err(Fault::of_field(NAME, 3));
     }
     if protocol.find_state(controller, name).is_some() {
-        return Err(TWICE);
+        return Err(Fault::of_field(TWICE, 3));
     }
     if protocol.states.len() == MOST_STATES {
-        return Err(FULL);
+        return Err(Fault::of_line(FULL));
     }
     protocol.states.push(StateRow { controller, name: name.to_vec(), kind });
     Ok(())
 }
 
-pub(super) fn add_cell(protocol: &mut Protocol, raw: &RawCell, line: usize) -> Result<(), u64> {
-    let cell = match look_up_cell(protocol, raw, line) {
-        Some(cell) => cell,
-        None => return Err(UNKNOWN),
-    };
+pub(super) fn add_cell(protocol: &mut Protocol, raw: &RawCell, line: usize) -> Result<(), Fault> {
+    let cell = look_up_cell(protocol, raw, line)?;
     if protocol.cells.len() == MOST_CELLS {
-        return Err(FULL);
+        return Err(Fault::of_line(FULL));
     }
     if cell.outcome == Outcome::Stall && protocol.kind_of(cell.state) == Kind::Stable {
-        return Err(STALL_STABLE);
+        return Err(Fault::of_line(STALL_STABLE));
     }
     if protocol.cells.iter().any(|earlier| conflict(earlier, &cell)) {
-        return Err(CONFLICT);
+        return Err(Fault::of_line(CONFLICT));
     }
     protocol.cells.push(cell);
     Ok(())
 }
 
-/// Nothing when a name is "not declared, or not allowed there" (refusal 7).
-pub(super) fn look_up_cell(protocol: &Protocol, raw: &RawCell, line: usize) -> Option<Cell> {
+/// The first name, in the order of the fields, that is "not declared, or not
+/// allowed there" (refusal 7): `cell` controller state trigger `go` next sent ..
+pub(super) fn look_up_cell(protocol: &Protocol, raw: &RawCell, line: usize) -> Result<Cell, Fault> {
+    let unknown = |field: usize| Fault::of_field(UNKNOWN, field);
     let controller = raw.controller;
-    let state = protocol.find_state(controller, raw.state)?;
-    let trigger = protocol.find_trigger(controller, raw.trigger)?;
+    let state = protocol.find_state(controller, raw.state).ok_or(unknown(3))?;
+    let trigger = protocol.find_trigger(controller, raw.trigger).ok_or(unknown(4))?;
     let outcome = match &raw.outcome {
         RawOutcome::Stall => Outcome::Stall,
         RawOutcome::Go { next, sent } => {
-            let next = protocol.find_state(controller, next)?;
+            let next = protocol.find_state(controller, next).ok_or(unknown(6))?;
             let mut sent_messages = Vec::new();
-            for name in sent {
-                sent_messages.push(protocol.find_message(name)?);
+            for (place, name) in sent.iter().enumerate() {
+                sent_messages.push(protocol.find_message(name).ok_or(unknown(7 + place))?);
             }
             Outcome::Go { next, sent: sent_messages }
         }
     };
-    Some(Cell { line, controller, state, trigger, outcome })
+    Ok(Cell { line, controller, state, trigger, outcome })
 }
 
 /// "the same controller, state and trigger, and at least one of the two is
@@ -204,7 +207,7 @@ pub fn read_mapping(text: &[u8], names: &[Vec<u8>]) -> Result<Vec<Network>, Refu
     for (place, content) in lines.iter().enumerate() {
         match read_map_line(header, content, mapping.len(), names) {
             Ok(network) => mapping.push(network),
-            Err(number) => return Err(refusal(number, MAPPING_PAPER, place + 2)),
+            Err(fault) => return Err(fault.refusal(MAPPING_PAPER, place + 2)),
         }
     }
     if mapping.len() < names.len() {
@@ -223,22 +226,24 @@ pub(super) fn read_map_line(
     content: &[u8],
     before: usize,
     names: &[Vec<u8>],
-) -> Result<Network, u64> {
+) -> Result<Network, Fault> {
     let fields = split_fields(content);
-    if fields[0] != b"map" || fields.len() != 3 {
-        return Err(SHAPE);
+    if fields[0] != b"map" {
+        return Err(Fault::of_field(SHAPE, 1));
+    }
+    if fields.len() != 3 {
+        return Err(Fault::of_line(SHAPE));
     }
     if before == header.most_map_lines {
-        return Err(FULL);
+        return Err(Fault::of_line(FULL));
     }
     match names.get(before) {
         Some(name) if name.as_slice() == fields[1] => {}
-        _ => return Err(UNMATCHED),
+        // "UNMATCHED by another name" tells its field, a line too many does not.
+        Some(_) => return Err(Fault::of_field(UNMATCHED, 2)),
+        None => return Err(Fault::of_line(UNMATCHED)),
     }
-    match read_network(header, fields[2]) {
-        Some(network) => Ok(network),
-        None => Err(NETWORK),
-    }
+    read_network(header, fields[2]).ok_or(Fault::of_field(NETWORK, 3))
 }
 
 /// "Network is decimal, 0 to 31, no leading zero." Under header 2 to 63.

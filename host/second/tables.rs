@@ -255,6 +255,23 @@ pub(super) fn read_record<'a>(fields: &[&'a [u8]]) -> Option<Record<'a>> {
     }
 }
 
+/// "SHAPE tells the first unknown or wrong fixed word, and 0 if only the count is
+/// wrong". A word that is missing because the line is short is not wrong.
+pub(super) fn shape_fault(fields: &[&[u8]]) -> Fault {
+    let wrong = |field: usize, words: &[&[u8]]| {
+        fields.get(field - 1).map_or(false, |word| !words.contains(word))
+    };
+    let field = match fields[0] {
+        b"message" if wrong(3, &[b"req", b"fwd", b"data", b"ctl"]) => 3,
+        b"state" | b"cell" if wrong(2, &[b"cache", b"dir"]) => 2,
+        b"state" if wrong(4, &[b"stable", b"transient"]) => 4,
+        b"cell" if wrong(5, &[b"stall", b"go"]) => 5,
+        b"message" | b"event" | b"state" | b"cell" => WHOLE_LINE,
+        _ => 1,
+    };
+    Fault::of_field(SHAPE, field)
+}
+
 /// `stall` alone; or `go`, next, and 0 to 8 messages.
 pub(super) fn read_outcome<'a>(fields: &[&'a [u8]]) -> Option<RawOutcome<'a>> {
     if fields[0] == b"stall" && fields.len() == 1 {

@@ -183,8 +183,8 @@ fn printed_mappings_are_fit() {
             let listing = plan(&protocol).unwrap();
             assert_eq!(judge(&protocol, &printed_under(2, &listing)).unwrap(), fit);
             let under_1 = judge(&protocol, &printed_under(1, &listing));
-            let line = if number == FULL { 34 } else { 2 };
-            let right = if count <= 32 { Ok(fit.clone()) } else { refused(number, 1, line) };
+            let (line, field) = if number == FULL { (34, 0) } else { (2, 3) };
+            let right = if count <= 32 { Ok(fit.clone()) } else { refused_at(number, 1, line, field) };
             assert_eq!(under_1, right, "{}", count);
         }
     }

@@ -73,12 +73,12 @@ fn names() {
         assert!(with_name(name).is_ok(), "{}", name);
     }
     for name in ["", "a b", "a\r", "a/", "\u{e9}", "@", "[", "`", "{", ",", ":", &"n".repeat(25)] {
-        assert_eq!(with_name(name), refused(NAME, 0, 2), "{}", name);
+        assert_eq!(with_name(name), refused_at(NAME, 0, 2, 2), "{}", name);
     }
     let event = tabbed(&["vn-protocol>1", "message>a>req", "event>!"]);
-    assert_eq!(plan(&event), refused(NAME, 0, 3));
+    assert_eq!(plan(&event), refused_at(NAME, 0, 3, 2));
     let state = tabbed(&["vn-protocol>1", "message>a>req", "state>dir>>stable"]);
-    assert_eq!(plan(&state), refused(NAME, 0, 3));
+    assert_eq!(plan(&state), refused_at(NAME, 0, 3, 3));
 }
 
 #[test]
@@ -109,7 +109,7 @@ fn declared_twice() {
     check(&["state>cache>a>stable", "state>dir>a>stable", "state>cache>e>stable"], Ok(()));
     check(&["state>cache>s>stable", "state>cache>s>transient"], Err((TWICE, 5)));
     let messages = tabbed(&["vn-protocol>1", "message>a>req", "message>a>ctl"]);
-    assert_eq!(plan(&messages), refused(TWICE, 0, 3));
+    assert_eq!(plan(&messages), refused_at(TWICE, 0, 3, 2));
 }
 
 #[test]
@@ -235,9 +235,10 @@ fn longest_answers() {
 
 #[test]
 fn mapping_refusals() {
-    let check = |mapping: &[u8], number: u64, line: u64| {
-        assert_eq!(judge(&bell(), mapping), refused(number, 1, line));
+    let check_at = |mapping: &[u8], number: u64, line: u64, field: u64| {
+        assert_eq!(judge(&bell(), mapping), refused_at(number, 1, line, field));
     };
+    let check = |mapping: &[u8], number: u64, line: u64| check_at(mapping, number, line, 0);
     let lines = ["vn-mapping>1", "map>Ask>31", "map>Pass>0", "map>Give>9", "map>Done>10"];
     assert!(judge(&bell(), &tabbed(&lines)).is_ok());
     check(b"", HEADER, 1);
@@ -245,19 +246,22 @@ fn mapping_refusals() {
     check(b"vn-mapping\t1", NO_END, 1);
     for header in [1, 2] {
         check(&limits::long_mapping(header, 49_153), TOO_BIG, 0);
-        check(&limits::long_mapping(header, 49_152), SHAPE, 2);
+        check_at(&limits::long_mapping(header, 49_152), SHAPE, 2, 1);
     }
     check(&tabbed(&lines[..1]), UNMATCHED, 2);
     check(&tabbed(&lines[..4]), UNMATCHED, 5);
     let one_line = |line: &str| tabbed(&["vn-mapping>1", line]);
-    for line in ["", "map>Ask", "map>Ask>0>", "Map>Ask>0", "map>X"] {
+    for line in ["map>Ask", "map>Ask>0>", "map>X"] {
         check(&one_line(line), SHAPE, 2);
     }
+    for line in ["", "Map>Ask>0"] {
+        check_at(&one_line(line), SHAPE, 2, 1);
+    }
     for line in ["map>Pass>0", "map>X>99", "map>>0", "map>ask>0"] {
-        check(&one_line(line), UNMATCHED, 2);
+        check_at(&one_line(line), UNMATCHED, 2, 2);
     }
     for field in ["", "32", "00", "01", "+1", "-1", "1 ", "0x1", "100", "4294967296", "\u{661}"] {
-        check(&one_line(&format!("map>Ask>{}", field)), NETWORK, 2);
+        check_at(&one_line(&format!("map>Ask>{}", field)), NETWORK, 2, 3);
     }
     let mut too_many = tabbed(&lines);
     too_many.extend(b"map\tDone\t0\n");

@@ -258,7 +258,7 @@ fn place_of_no_entry() {
     assert_eq!(plan_with_room(&text, 0).packed(), NO_ENTRY | 19 << 16);
     assert_eq!(judge(&text, b""), refused(NO_ENTRY, 0, 19));
     let bad = [text, tabbed(&["cell>cache>I>a>go>X"])].concat();
-    assert_eq!(plan(&bad), refused(UNKNOWN, 0, 20));
+    assert_eq!(plan(&bad), refused_at(UNKNOWN, 0, 20, 6));
 }
 
 // ---------------------------------------------------------------------
