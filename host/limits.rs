@@ -166,6 +166,31 @@ fn sent_list(counts: &Counts, cell: usize, most: usize, extra_left: &mut usize) 
 }
 
 // ---------------------------------------------------------------------
+// Refusals
+// ---------------------------------------------------------------------
+
+/// Paper, number and field of every refusal that a text can get, for tests that
+/// ask for each of them.
+pub fn all_refusals() -> Vec<(u64, u64, u64)> {
+    let of_protocol = (1..=13).map(|number| (0, number));
+    let of_mapping = [1, 2, 3, 4, 9, 14, 15].into_iter().map(|number| (1, number));
+    let mut all = Vec::new();
+    for (paper, number) in of_protocol.chain(of_mapping) {
+        let fields: &[u64] = match (number, paper) {
+            (4, 0) => &[0, 1, 2, 3, 4, 5],
+            (4, _) => &[0, 1],
+            (6 | 8, _) => &[2, 3],
+            (7, _) => &[3, 4, 6, 7, 8, 9, 10, 11, 12, 13, 14],
+            (14, _) => &[0, 2],
+            (15, _) => &[3],
+            _ => &[0],
+        };
+        all.extend(fields.iter().map(|field| (paper, number, *field)));
+    }
+    all
+}
+
+// ---------------------------------------------------------------------
 // Long answers
 // ---------------------------------------------------------------------
 

@@ -29,8 +29,8 @@ impl Maker {
     }
 
     /// Bytes, fields and lines are changed, dropped, doubled, swapped and cut,
-    /// in the protocol, in the mapping, in both or in none. Some mappings are
-    /// new, and some those of another protocol.
+    /// or several fields of one line are bad, in the protocol, in the mapping, in
+    /// both or in none. Some mappings are new, and some those of another protocol.
     pub fn pair(&mut self) -> Pair {
         if self.left == 0 {
             self.others_mapping = std::mem::take(&mut self.whole.mapping);
@@ -40,7 +40,7 @@ impl Maker {
         self.left -= 1;
         let random = &mut self.random;
         let mut pair = self.whole.clone();
-        match random.below(16) {
+        match random.below(20) {
             0..=4 => pair.protocol = random::damage(random, &pair.protocol),
             5..=7 => pair.mapping = random::damage(random, &pair.mapping),
             8 => {
@@ -48,6 +48,8 @@ impl Maker {
                 pair.mapping = random::damage(random, &pair.mapping);
             }
             9 => pair.mapping = self.others_mapping.clone(),
+            10..=12 => pair.protocol = random::damage_a_line(random, &pair.protocol),
+            13 => pair.mapping = random::damage_a_line(random, &pair.mapping),
             _ => pair.mapping = random::mapping_text(random, &pair.protocol),
         }
         pair

@@ -57,11 +57,17 @@ impl Wanted {
     fn kind(&self) -> String {
         match &self.result {
             _ if self.given.packed & 0xff == 16 => "16".to_string(),
-            Err(refusal) if refusal.paper == 1 => format!("mapping-{}", refusal.number),
-            Err(refusal) => format!("{}", refusal.number),
+            Err(refusal) => refusal_kind((refusal.paper, refusal.number, refusal.field)),
             Ok(listing) => second_line(listing),
         }
     }
+}
+
+/// Its number, and behind a dot the field that is told.
+fn refusal_kind((paper, number, field): (u64, u64, u64)) -> String {
+    let of_mapping = if paper == 1 { "mapping-" } else { "" };
+    let of_field = if field == 0 { String::new() } else { format!(".{}", field) };
+    format!("{}{}{}", of_mapping, number, of_field)
 }
 
 /// `class 3`, `class 2`, `fit` or `unfit`.
@@ -83,15 +89,16 @@ impl Tally {
         *self.judgements.entry(judgement.kind()).or_insert(0) += 1;
     }
 
-    /// Both classes, both verdicts and every row of the refusal table.
+    /// Both classes, both verdicts and every row of the refusal table, with every
+    /// field that it tells.
     fn check(&self) {
-        let rows = (1..=13).map(|number| number.to_string());
-        for kind in rows.chain(["16", "class-2", "class-3"].map(String::from)) {
-            assert!(self.plans.contains_key(&kind), "no plan was {}", kind);
+        for kind in ["16", "class-2", "class-3"] {
+            assert!(self.plans.contains_key(kind), "no plan was {}", kind);
         }
-        for number in [1, 2, 3, 4, 9, 14, 15] {
-            let kind = format!("mapping-{}", number);
-            assert!(self.judgements.contains_key(&kind), "no judgement was {}", kind);
+        for refusal in limits::all_refusals() {
+            let kind = refusal_kind(refusal);
+            let kinds = if refusal.0 == 0 { &self.plans } else { &self.judgements };
+            assert!(kinds.contains_key(&kind), "no answer was {}", kind);
         }
         for kind in ["16", "fit", "unfit"] {
             assert!(self.judgements.contains_key(kind), "no judgement was {}", kind);

@@ -9,9 +9,11 @@
 
 #![allow(dead_code, unused_imports)]
 
+mod bad_fields;
 mod chains;
 mod damage;
 
+pub use bad_fields::*;
 pub use damage::*;
 
 use crate::second::{Form, Message, Network, State, MOST_MESSAGES, MOST_STATES, SECOND_FORM};

@@ -14,7 +14,7 @@ pub(super) fn split_all(text: &[u8]) -> Vec<Vec<Vec<u8>>> {
         .collect()
 }
 
-fn join_all(lines: &[Vec<Vec<u8>>]) -> Vec<u8> {
+pub(super) fn join_all(lines: &[Vec<Vec<u8>>]) -> Vec<u8> {
     let mut text = Vec::new();
     for line in lines {
         text.extend(line.join(&9u8));
@@ -74,13 +74,13 @@ fn damage_bytes(random: &mut Random, mut text: Vec<u8>) -> Vec<u8> {
     text
 }
 
-fn random_field(random: &mut Random, lines: &[Vec<Vec<u8>>]) -> Vec<u8> {
+pub(super) fn random_field(random: &mut Random, lines: &[Vec<Vec<u8>>]) -> Vec<u8> {
     let line = random.pick(lines);
     random.pick(line).clone()
 }
 
 /// Words of texts, and fields that are or could be network numbers.
-fn word(most: usize, random: &mut Random) -> Vec<u8> {
+pub(super) fn word(most: usize, random: &mut Random) -> Vec<u8> {
     let (last, past) = ((most - 1).to_string(), most.to_string());
     let words = [
         "message", "event", "state", "cell", "map", "cache", "dir", "stall", "go", "stable",
@@ -121,7 +121,7 @@ fn damage_fields(most: usize, random: &mut Random, text: &[u8]) -> Vec<u8> {
 
 /// The field at the same place of some line with the same first word: the
 /// shape stays right, so later checks are reached.
-fn field_of_a_like_line(
+pub(super) fn field_of_a_like_line(
     random: &mut Random,
     lines: &[Vec<Vec<u8>>],
     line: usize,

@@ -1,6 +1,7 @@
 //! Which field a refusal tells (C-14).
 
 use super::*;
+use std::collections::BTreeMap;
 
 /// Number and field of a result; accepted is (0, 0).
 fn told<T>(result: Result<T, Refusal>) -> (u64, u64) {
@@ -343,4 +344,46 @@ fn whole_lines_and_texts() {
     assert_eq!(told(judge(&bell(), &[10; 49_153])), (TOO_BIG, 0));
     let short = plan_with_room(&bell(), 0);
     assert_eq!((short.number, short.field), (ROOM, 0));
+}
+
+// ---------------------------------------------------------------------
+// Random texts
+// ---------------------------------------------------------------------
+
+/// Lines with several bad fields: each field is told often enough to be tried, and
+/// is one of its line. Numbers and lines are those of the text cut behind that line.
+#[test]
+fn damaged_lines() {
+    let mut seen = BTreeMap::new();
+    for seed in 0..20_000 {
+        let mut random = Random::new(seed);
+        let mut protocol = random::small_protocol_text(&mut random);
+        let mut mapping = random::mapping_text(&mut random, &protocol);
+        if seed % 4 == 0 {
+            mapping = random::damage_a_line(&mut random, &mapping);
+        } else {
+            protocol = random::damage_a_line(&mut random, &protocol);
+        }
+        let refused = match judge(&protocol, &mapping) {
+            Ok(_) => continue,
+            Err(refused) => refused,
+        };
+        *seen.entry((refused.paper, refused.number, refused.field)).or_insert(0) += 1;
+        if refused.field == 0 {
+            continue;
+        }
+        let text = if refused.paper == 0 { &protocol } else { &mapping };
+        let lines: Vec<&[u8]> = text.split_inclusive(|byte| *byte == 10).take(refused.line as usize).collect();
+        let fields = lines[lines.len() - 1].split(|byte| *byte == 9).count() as u64;
+        assert!(refused.field <= fields, "seed {}", seed);
+        let cut = lines.concat();
+        let again = if refused.paper == 0 { plan(&cut) } else { judge(&protocol, &cut) };
+        assert_eq!(again, Err(refused), "seed {}", seed);
+    }
+    for (paper, number, field) in limits::all_refusals() {
+        if field > 0 {
+            let times = seen.get(&(paper, number, field)).copied().unwrap_or(0);
+            assert!(times >= 20, "{} {} {}: {} times", number, paper, field, times);
+        }
+    }
 }
