@@ -4,12 +4,14 @@
 //!
 //! The items of this file are those from before request C-15, when there were at
 //! most 32 messages. They stay as they are, so that their lines show what that
-//! request changed. host/case_texts/sixty_four.rs has those of the new limits, and
-//! host/case_texts/taken_states.rs those of the mended rule 3 (C-12). New items
-//! stand at the end.
+//! request changed. host/case_texts/sixty_four.rs has those of the new limits,
+//! host/case_texts/taken_states.rs those of the mended rule 3 (C-12), and
+//! host/case_texts/told_fields.rs those of bad fields (C-14). New items stand at
+//! the end.
 
 mod sixty_four;
 mod taken_states;
+mod told_fields;
 
 use crate::limits;
 use crate::random::{self, Random};
@@ -32,6 +34,7 @@ pub fn all() -> Vec<Item> {
     items.extend(a_few_random());
     items.extend(sixty_four::all());
     items.extend(taken_states::all());
+    items.extend(told_fields::all());
     items
 }
 

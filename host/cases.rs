@@ -95,7 +95,7 @@ impl Answer {
 }
 
 fn refused_words(refusal: &Refusal) -> String {
-    format!("refused {} {} {}", refusal.number, refusal.paper, refusal.line)
+    format!("refused {} {} {} {}", refusal.number, refusal.paper, refusal.line, refusal.field)
 }
 
 fn accepted_words(protocol: &Protocol) -> String {
@@ -129,12 +129,12 @@ fn rows(relation: &Relation) -> String {
     words
 }
 
-/// How often each answer was given: a refusal by paper and number.
+/// How often each answer was given: a refusal by paper, number and field.
 #[derive(Default)]
 struct Tally {
     accepted: usize,
     mapped: usize,
-    refused: BTreeMap<(u64, u64), usize>,
+    refused: BTreeMap<(u64, u64, u64), usize>,
 }
 
 impl Tally {
@@ -142,24 +142,22 @@ impl Tally {
         self.accepted += usize::from(answer.protocol.is_ok());
         self.mapped += usize::from(matches!(answer.mapping, Some(Ok(_))));
         for refusal in answer.refusals() {
-            *self.refused.entry((refusal.paper, refusal.number)).or_insert(0) += 1;
+            *self.refused.entry((refusal.paper, refusal.number, refusal.field)).or_insert(0) += 1;
         }
     }
 
-    /// Each row of the refusal table that a reader can give has to be there.
+    /// Each row of the refusal table that a reader can give has to be there, with
+    /// each field that it can tell.
     fn check(&self) {
-        let of_protocol = (1..=13).map(|number| (0, number));
-        let of_mapping = [1, 2, 3, 4, 9, 14, 15].into_iter().map(|number| (1, number));
-        for (paper, number) in of_protocol.chain(of_mapping) {
-            assert!(self.refused.contains_key(&(paper, number)), "no refusal {} {}", number, paper);
-        }
+        let refused: Vec<(u64, u64, u64)> = self.refused.keys().copied().collect();
+        assert_eq!(refused, limits::all_refusals());
         assert!(self.accepted > 0 && self.mapped > 0, "something is accepted");
     }
 
     fn say(&self) {
         let mut words = format!("accepted {}, mapped {}, refused", self.accepted, self.mapped);
-        for ((paper, number), times) in &self.refused {
-            words.push_str(&format!(" {}/{}:{}", number, paper, times));
+        for ((paper, number, field), times) in &self.refused {
+            words.push_str(&format!(" {}/{}/{}:{}", number, paper, field, times));
         }
         eprintln!("{}", words);
     }
@@ -174,13 +172,17 @@ impl Tally {
 fn random_item(random: &mut Random, others_mapping: &mut Vec<u8>) -> Item {
     let whole = random::protocol_text(random);
     if random.chance(2, 3) {
-        let damaged = random.chance(9, 10);
-        return Item::Protocol(if damaged { random::damage(random, &whole) } else { whole });
+        return Item::Protocol(match random.below(10) {
+            0 => whole,
+            1..=5 => random::damage(random, &whole),
+            _ => random::damage_a_line(random, &whole),
+        });
     }
     let mut mapping = random::mapping_text(random, &whole);
     let text = if random.chance(1, 6) { random::damage(random, &whole) } else { whole };
     match random.below(12) {
-        0..=6 => mapping = random::damage(random, &mapping),
+        0..=4 => mapping = random::damage(random, &mapping),
+        5 | 6 => mapping = random::damage_a_line(random, &mapping),
         7 => std::mem::swap(&mut mapping, others_mapping),
         _ => {}
     }
