@@ -61,12 +61,21 @@ fn judged(protocol: &[u8], mapping: &[u8]) -> Result<Listing, Refusal> {
     zeveltoren_texts::judge(protocol, mapping, &mut out).map(|length| out[..length].to_vec())
 }
 
+/// Of a whole line or text.
 fn of_protocol(number: u8, line: usize) -> Result<Listing, Refusal> {
-    Err(Refusal::Text { number, paper: Paper::Protocol, line })
+    of_protocol_at(number, line, 0)
+}
+
+fn of_protocol_at(number: u8, line: usize, field: usize) -> Result<Listing, Refusal> {
+    Err(Refusal::Text { number, paper: Paper::Protocol, line, field })
 }
 
 fn of_mapping(number: u8, line: usize) -> Result<Listing, Refusal> {
-    Err(Refusal::Text { number, paper: Paper::Mapping, line })
+    of_mapping_at(number, line, 0)
+}
+
+fn of_mapping_at(number: u8, line: usize, field: usize) -> Result<Listing, Refusal> {
+    Err(Refusal::Text { number, paper: Paper::Mapping, line, field })
 }
 
 /// A plan with this much room, against the second program.
@@ -135,7 +144,7 @@ fn real_judgements() {
         let (protocol, _) = name.rsplit_once('.').unwrap();
         let (text, mapping) = (example(protocol, ".tsv"), example(&name, ".mapping.tsv"));
         let wanted = match example(&name, ".judge") {
-            refused if refused == b"refused\t9\t1\t34\n" => of_mapping(9, 34),
+            refused if refused == b"refused\t9\t1\t34\t0\n" => of_mapping(9, 34),
             listing => Ok(listing),
         };
         assert_eq!(judged(&text, &mapping), wanted, "{}", name);
@@ -159,7 +168,7 @@ fn printed_mappings() {
         let protocol = limits::protocol_with_waits(count, &limits::in_a_row(count));
         let plan = planned(&protocol).unwrap();
         assert_eq!(judged(&protocol, &printed_under(2, &plan)), fit, "{}", count);
-        let under_1 = if count <= 32 { fit.clone() } else { of_mapping(15, 2) };
+        let under_1 = if count <= 32 { fit.clone() } else { of_mapping_at(15, 2, 3) };
         assert_eq!(judged(&protocol, &printed_under(1, &plan)), under_1, "{}", count);
     }
 }
@@ -168,45 +177,60 @@ fn printed_mappings() {
 // Refusals on both sides of their limits
 // ---------------------------------------------------------------------
 
-/// One more line after Bell, which is line 18, and the number that it is
-/// refused with; 0: it is accepted.
-const AFTER_BELL: [(&str, u8); 22] = [
-    ("cell>cache>I>load>go>I", 0),
-    ("cell>cache>I>load", 4),
-    ("cell>cache>I>load>go>I>Ask>Ask>Ask>Ask>Ask>Ask>Ask>Ask", 0),
-    ("cell>cache>I>load>go>I>Ask>Ask>Ask>Ask>Ask>Ask>Ask>Ask>Ask", 4),
-    ("", 4),
-    ("message>New>req", 5),
-    ("event>New", 5),
-    ("state>dir>New>stable", 5),
-    ("cell>dir>Free>Pass>go>Free", 0),
-    ("cell>dir>Free>load>go>Free", 7),
-    ("cell>dir>ID>Ask>go>Free", 7),
-    ("cell>dir>Free>Ask>go>ID", 7),
-    ("cell>cache>I>load>go>I>load", 7),
-    ("cell>cache>I>load>go>I>Asks", 7),
-    ("cell>cache>V>Give>stall", 10),
-    ("cell>cache>ID>Ask>stall", 0),
-    ("cell>dir>Wait>Ask>stall", 11),
-    ("cell>dir>Wait>Ask>go>Free", 11),
-    ("cell>dir>Wait>Done>stall", 11),
-    ("cell>dir>Wait>Done>go>Wait", 0),
-    ("cell>cache>ID>load>stall", 0),
-    ("cell>cache>V>load>stall", 10),
+/// One more line after Bell, which is line 18, and the number and the field that
+/// it is refused with; number 0: it is accepted.
+const AFTER_BELL: [(&str, u8, usize); 36] = [
+    ("cell>cache>I>load>go>I", 0, 0),
+    ("cell>cache>I>load", 4, 0),
+    ("cell>cache>I>load>go", 4, 0),
+    ("cell>cache>ID>Ask>stall>ID", 4, 0),
+    ("cell>cache>I>load>go>I>Ask>Ask>Ask>Ask>Ask>Ask>Ask>Ask", 0, 0),
+    ("cell>cache>I>load>go>I>Ask>Ask>Ask>Ask>Ask>Ask>Ask>Ask>Ask", 4, 0),
+    ("", 4, 1),
+    ("Cell>core>I>load>gone", 4, 1),
+    ("message>New>ask", 4, 3),
+    ("message>New>ask>", 4, 3),
+    ("event>New>x", 4, 0),
+    ("state>core>New>steady", 4, 2),
+    ("state>dir>New>steady", 4, 4),
+    ("cell>core", 4, 2),
+    ("cell>core>X>Y>gone>Z", 4, 2),
+    ("cell>cache>X>Y>gone>Z", 4, 5),
+    ("message>New>req", 5, 0),
+    ("event>New", 5, 0),
+    ("state>dir>New>stable", 5, 0),
+    ("cell>dir>Free>Pass>go>Free", 0, 0),
+    ("cell>dir>Free>load>go>Free", 7, 4),
+    ("cell>dir>ID>Ask>go>Free", 7, 3),
+    ("cell>dir>ID>load>go>ID>load", 7, 3),
+    ("cell>dir>Free>Ask>go>ID", 7, 6),
+    ("cell>cache>I>load>go>I>load", 7, 7),
+    ("cell>cache>I>load>go>I>Asks", 7, 7),
+    ("cell>cache>I>load>go>I>Ask>Asks>Ask>Ask>Ask>Ask>Ask>load", 7, 8),
+    ("cell>cache>I>load>go>I>Ask>Ask>Ask>Ask>Ask>Ask>Ask>load", 7, 14),
+    ("cell>cache>V>Give>stall", 10, 0),
+    ("cell>cache>ID>Ask>stall", 0, 0),
+    ("cell>dir>Wait>Ask>stall", 11, 0),
+    ("cell>dir>Wait>Ask>go>Free", 11, 0),
+    ("cell>dir>Wait>Done>stall", 11, 0),
+    ("cell>dir>Wait>Done>go>Wait", 0, 0),
+    ("cell>cache>ID>load>stall", 0, 0),
+    ("cell>cache>V>load>stall", 10, 0),
 ];
 
 #[test]
 fn refusals_of_a_line() {
-    for (line, number) in AFTER_BELL {
+    for (line, number, field) in AFTER_BELL {
         let text = bell_and(&[line]);
         let answer = planned(&text);
+        let refused = of_protocol_at(number, 18, field);
         match number {
             0 => assert!(answer.is_ok(), "{}", line),
-            _ => assert_eq!(answer, of_protocol(number, 18), "{}", line),
+            _ => assert_eq!(answer, refused, "{}", line),
         }
         compare_plan(&text, LONGEST_LISTING);
         // The protocol is refused before the mapping is read.
-        let right = if number == 0 { of_mapping(3, 1) } else { of_protocol(number, 18) };
+        let right = if number == 0 { of_mapping(3, 1) } else { refused };
         assert_eq!(judged(&text, b""), right, "{}", line);
     }
 }
@@ -215,15 +239,19 @@ fn refusals_of_a_line() {
 fn refusals_of_names() {
     let declared = |name: &str| planned(&tabbed(&["vn-protocol>1", &format!("message>{}>req", name)]));
     assert!(declared(&"n".repeat(24)).is_ok());
-    assert_eq!(declared(&"n".repeat(25)), of_protocol(6, 2));
+    assert_eq!(declared(&"n".repeat(25)), of_protocol_at(6, 2, 2));
     assert!(declared("n").is_ok());
-    assert_eq!(declared(""), of_protocol(6, 2));
-    assert_eq!(declared("a b"), of_protocol(6, 2));
+    assert_eq!(declared(""), of_protocol_at(6, 2, 2));
+    assert_eq!(declared("a b"), of_protocol_at(6, 2, 2));
     let twice = |second: &str| planned(&tabbed(&["vn-protocol>1", "message>a>req", second]));
     assert!(twice("message>A>req").is_ok());
-    assert_eq!(twice("message>a>req"), of_protocol(8, 3));
-    assert_eq!(twice("event>a"), of_protocol(8, 3));
+    assert_eq!(twice("message>a>req"), of_protocol_at(8, 3, 2));
+    assert_eq!(twice("event>a"), of_protocol_at(8, 3, 2));
+    assert_eq!(twice("event>?"), of_protocol_at(6, 3, 2));
+    assert_eq!(twice("state>dir>?>stable"), of_protocol_at(6, 3, 3));
     assert!(twice("state>dir>a>stable").is_ok());
+    let states = ["vn-protocol>1", "message>a>req", "state>dir>a>stable", "state>dir>a>transient"];
+    assert_eq!(planned(&tabbed(&states)), of_protocol_at(8, 4, 3));
 }
 
 #[test]
@@ -285,8 +313,11 @@ fn map_lines_of_each_header() {
         for more in ["map>m0>0", "map>x>99", "map>>", &format!("map>m{}>0", most)] {
             assert_eq!(mapped(most, header, most, &[more]), of_mapping(9, line), "{}", more);
         }
-        for more in ["map>m0>0>", "Map>m0>0", "", &format!("map>m{}", most)] {
+        for more in ["map>m0>0>", &format!("map>m{}", most)] {
             assert_eq!(mapped(most, header, most, &[more]), of_mapping(4, line), "{}", more);
+        }
+        for more in ["Map>m0>0", "Map>m0", ""] {
+            assert_eq!(mapped(most, header, most, &[more]), of_mapping_at(4, line, 1), "{}", more);
         }
         // Fewer messages than that: the first line too many is another message.
         assert_eq!(mapped(10, header, 10, &["map>m10>0"]), of_mapping(14, 12));
@@ -313,7 +344,7 @@ fn refusals_of_mappings() {
     for (first, highest, past) in [("vn-mapping>1", "31", "32"), ("vn-mapping>2", "63", "64")] {
         assert!(ask(first, highest).is_ok());
         for field in [past, "01", "00", "", "+1", "-1", "100", "4294967296"] {
-            assert_eq!(ask(first, field), of_mapping(15, 2), "{} {}", first, field);
+            assert_eq!(ask(first, field), of_mapping_at(15, 2, 3), "{} {}", first, field);
         }
     }
     for first in ["vn-mapping>3", "vn-mapping>0", "vn-mapping>02", "vn-mapping> 2", "vn-mapping>2>", "vn-mapping>12"] {
@@ -323,19 +354,21 @@ fn refusals_of_mappings() {
     assert_eq!(with(b"vn-mapping\t1"), of_mapping(2, 1));
     assert_eq!(with(b"vn-mapping\t1\n"), of_mapping(14, 2));
     assert_eq!(with(&tabbed(&["vn-mapping>1", "map>Ask>0"])), of_mapping(14, 3));
-    assert_eq!(with(&tabbed(&["vn-mapping>1", "map>Pass>0"])), of_mapping(14, 2));
+    assert_eq!(with(&tabbed(&["vn-mapping>1", "map>Pass>0"])), of_mapping_at(14, 2, 2));
+    assert_eq!(with(&tabbed(&["vn-mapping>1", "map>Pass>99"])), of_mapping_at(14, 2, 2));
     assert_eq!(four("map>Done>0"), of_mapping(14, 6));
     assert_eq!(four("map>Done"), of_mapping(4, 6));
+    assert_eq!(four("Map>Done"), of_mapping_at(4, 6, 1));
     for header in [1, 2] {
         assert_eq!(with(&limits::long_mapping(header, 49_153)), of_mapping(1, 0));
-        assert_eq!(with(&limits::long_mapping(header, 49_152)), of_mapping(4, 2));
+        assert_eq!(with(&limits::long_mapping(header, 49_152)), of_mapping_at(4, 2, 1));
     }
     // Of both papers: the protocol first.
     assert_eq!(judged(b"", b""), of_protocol(3, 1));
 }
 
 /// The chosen texts of host/case_texts.rs, through both calls. Each row of the
-/// refusal table has to be among them.
+/// refusal table has to be among them, with each field that it can tell.
 #[test]
 fn chosen_texts() {
     let mut seen = BTreeSet::new();
@@ -347,12 +380,10 @@ fn chosen_texts() {
         compare_plan(&protocol, LONGEST_LISTING);
         compare_judgement(&protocol, &mapping, LONGEST_LISTING);
         if let Err(refused) = second::judge(&protocol, &mapping) {
-            seen.insert((refused.paper, refused.number));
+            seen.insert((refused.paper, refused.number, refused.field));
         }
     }
-    let of_protocol = (1..=13).map(|number| (0, number));
-    let of_mapping = [1, 2, 3, 4, 9, 14, 15].into_iter().map(|number| (1, number));
-    assert_eq!(seen, of_protocol.chain(of_mapping).collect());
+    assert_eq!(seen, limits::all_refusals().into_iter().collect());
 }
 
 // ---------------------------------------------------------------------

@@ -36,9 +36,9 @@ struct example {
 };
 
 /* The packed number, put together from its parts. */
-static uint64_t pack(unsigned refusal, unsigned paper, unsigned line, size_t length)
+static uint64_t pack(unsigned refusal, unsigned paper, unsigned line, unsigned field, size_t length)
 {
-    return refusal + (paper << 8) + ((uint64_t)line << 16) + ((uint64_t)length << 32);
+    return refusal + (paper << 8) + ((uint64_t)line << 16) + ((uint64_t)length << 32) + ((uint64_t)field << 48);
 }
 
 static uint64_t call(const struct example *example, uint8_t *out)
@@ -75,8 +75,8 @@ static void check(struct example example)
     memset(buffer, UNTOUCHED, example.room + 2 * MARGIN);
     answer = call(&example, buffer + MARGIN);
     right = answer == example.right && bytes_are_right(&example, buffer);
-    printf("%-24s refusal %2u paper %u line %2u length %4u needed %4u%s\n", example.name,
-           vn_refusal(answer), vn_paper(answer), vn_line(answer),
+    printf("%-24s refusal %2u paper %u line %2u field %2u length %4u needed %4u%s\n", example.name,
+           vn_refusal(answer), vn_paper(answer), vn_line(answer), vn_field(answer),
            (unsigned)vn_listing_length(answer), (unsigned)vn_listing_needed(answer),
            right ? "" : " WRONG");
     if (!right)
@@ -87,17 +87,28 @@ static void check(struct example example)
 static void accepted(const char *name, const char *protocol, const char *mapping, const char *listing)
 {
     size_t length = strlen(listing);
-    check((struct example){name, protocol, mapping, VN_LONGEST_LISTING, pack(0, 0, 0, length), listing});
-    check((struct example){"  just enough room", protocol, mapping, length, pack(0, 0, 0, length), listing});
-    check((struct example){"  a byte less", protocol, mapping, length - 1, pack(VN_ROOM, 0, 0, length), ""});
-    check((struct example){"  no room", protocol, mapping, 0, pack(VN_ROOM, 0, 0, length), ""});
+    check((struct example){name, protocol, mapping, VN_LONGEST_LISTING, pack(0, 0, 0, 0, length), listing});
+    check((struct example){"  just enough room", protocol, mapping, length, pack(0, 0, 0, 0, length), listing});
+    check((struct example){"  a byte less", protocol, mapping, length - 1, pack(VN_ROOM, 0, 0, 0, length), ""});
+    check((struct example){"  no room", protocol, mapping, 0, pack(VN_ROOM, 0, 0, 0, length), ""});
 }
 
+static void refused_at(const char *name, const char *protocol, const char *mapping, unsigned number,
+                       unsigned paper, unsigned line, unsigned field)
+{
+    uint64_t right = pack(number, paper, line, field, 0);
+    check((struct example){name, protocol, mapping, 100, right, ""});
+    check((struct example){name, protocol, mapping, 0, right, ""});
+    /* The parts are where the header says. */
+    if (vn_refusal(right) != number || vn_paper(right) != paper || vn_line(right) != line || vn_field(right) != field)
+        wrong_lines++;
+}
+
+/* Of a whole line or text. */
 static void refused(const char *name, const char *protocol, const char *mapping, unsigned number,
                     unsigned paper, unsigned line)
 {
-    check((struct example){name, protocol, mapping, 100, pack(number, paper, line, 0), ""});
-    check((struct example){name, protocol, mapping, 0, pack(number, paper, line, 0), ""});
+    refused_at(name, protocol, mapping, number, paper, line, 0);
 }
 
 /* Bell and one line more, which is line 18. */
@@ -138,14 +149,32 @@ static void check_protocol_refusals(void)
     refused("empty", "", NULL, VN_HEADER, 0, 1);
     refused("shape", bell_and("cell"), NULL, VN_SHAPE, 0, 18);
     refused("order", bell_and("event\tstore"), NULL, VN_ORDER, 0, 18);
-    refused("name", "vn-protocol\t1\nmessage\t!\treq\n", NULL, VN_NAME, 0, 2);
-    refused("unknown", bell_and("cell\tcache\tI\tAsk\tgo\tFree"), NULL, VN_UNKNOWN, 0, 18);
-    refused("twice", "vn-protocol\t1\nmessage\ta\treq\nevent\ta\n", NULL, VN_TWICE, 0, 3);
+    refused_at("name", "vn-protocol\t1\nmessage\t!\treq\n", NULL, VN_NAME, 0, 2, 2);
+    refused_at("unknown", bell_and("cell\tcache\tI\tAsk\tgo\tFree"), NULL, VN_UNKNOWN, 0, 18, 6);
+    refused_at("twice", "vn-protocol\t1\nmessage\ta\treq\nevent\ta\n", NULL, VN_TWICE, 0, 3, 2);
     refused("stall in a stable state", bell_and("cell\tcache\tI\tAsk\tstall"), NULL, VN_STALL_STABLE, 0, 18);
     refused("conflict", bell_and("cell\tdir\tWait\tAsk\tgo\tFree"), NULL, VN_CONFLICT, 0, 18);
     refused("no message", "vn-protocol\t1\n", NULL, VN_NO_MESSAGE, 0, 0);
     refused("no entry", "vn-protocol\t1\nmessage\ta\treq\nstate\tdir\tT\ttransient\ncell\tdir\tT\ta\tstall\n",
             NULL, VN_NO_ENTRY, 0, 4);
+}
+
+/* Each field that a line can tell: fixed words, names, and what a cell names. */
+static void check_fields(void)
+{
+    const char *sent = "cell\tdir\tFree\tAsk\tgo\tFree\tAsk\tAsk\tAsk\tAsk\tAsk\tAsk\tAsk\tload";
+    refused_at("empty line", bell_and(""), NULL, VN_SHAPE, 0, 18, 1);
+    refused_at("record", bell_and("Cell\tcore\tI\tload\tgone"), NULL, VN_SHAPE, 0, 18, 1);
+    refused_at("controller", bell_and("cell\tcore\tI\tload\tgone"), NULL, VN_SHAPE, 0, 18, 2);
+    refused_at("type", bell_and("message\ta\task"), NULL, VN_SHAPE, 0, 18, 3);
+    refused_at("type, and the count", bell_and("message\ta\task\t"), NULL, VN_SHAPE, 0, 18, 3);
+    refused("type is missing", bell_and("message\ta"), NULL, VN_SHAPE, 0, 18);
+    refused_at("kind", bell_and("state\tdir\ta\tsteady"), NULL, VN_SHAPE, 0, 18, 4);
+    refused_at("stall or go", bell_and("cell\tdir\tX\tY\tgone\tZ"), NULL, VN_SHAPE, 0, 18, 5);
+    refused_at("name of a state", "vn-protocol\t1\nstate\tdir\t!\tstable\n", NULL, VN_NAME, 0, 2, 3);
+    refused_at("state", bell_and("cell\tdir\tI\tload\tgo\tV"), NULL, VN_UNKNOWN, 0, 18, 3);
+    refused_at("trigger", bell_and("cell\tdir\tFree\tload\tgo\tV"), NULL, VN_UNKNOWN, 0, 18, 4);
+    refused_at("the eighth sent", bell_and(sent), NULL, VN_UNKNOWN, 0, 18, 14);
 }
 
 /* So many lines after the first, each with the number of its place. */
@@ -196,11 +225,12 @@ static void check_mapping_refusals(void)
     refused("mapping: empty", bell, "", VN_HEADER, 1, 1);
     refused("mapping: no end", bell, "vn-mapping\t1\nmap", VN_NO_END, 1, 2);
     refused("mapping: shape", bell, "vn-mapping\t1\nmap\tAsk\n", VN_SHAPE, 1, 2);
-    refused("mapping: another", bell, "vn-mapping\t1\nmap\tPass\t0\n", VN_UNMATCHED, 1, 2);
+    refused_at("mapping: record", bell, "vn-mapping\t1\nMap\tAsk\n", VN_SHAPE, 1, 2, 1);
+    refused_at("mapping: another", bell, "vn-mapping\t1\nmap\tPass\t0\n", VN_UNMATCHED, 1, 2, 2);
     refused("mapping: ends early", bell, "vn-mapping\t1\nmap\tAsk\t31\n", VN_UNMATCHED, 1, 3);
-    refused("mapping: network 32", bell, "vn-mapping\t1\nmap\tAsk\t32\n", VN_NETWORK, 1, 2);
+    refused_at("mapping: network 32", bell, "vn-mapping\t1\nmap\tAsk\t32\n", VN_NETWORK, 1, 2, 3);
     refused("mapping: header 2", bell, "vn-mapping\t2\nmap\tAsk\t63\n", VN_UNMATCHED, 1, 3);
-    refused("mapping: network 64", bell, "vn-mapping\t2\nmap\tAsk\t64\n", VN_NETWORK, 1, 2);
+    refused_at("mapping: network 64", bell, "vn-mapping\t2\nmap\tAsk\t64\n", VN_NETWORK, 1, 2, 3);
     refused("mapping: header 3", bell, "vn-mapping\t3\nmap\tAsk\t0\n", VN_HEADER, 1, 1);
     refused("both: the protocol", "", "", VN_HEADER, 0, 1);
 }
@@ -209,7 +239,9 @@ static void check_mapping_refusals(void)
 static void check_side_by_side(void)
 {
     uint8_t causes[8] = {0}, stalls[8] = {0}, network[2] = {UNTOUCHED, UNTOUCHED};
+    const char *bad = "vn-protocol\t1\nmessage\t!\treq\n";
     int right = vn_check_protocol((const uint8_t *)bell, strlen(bell)) == VN_ACCEPTED;
+    right = right && vn_check_protocol((const uint8_t *)bad, strlen(bad)) == pack(VN_NAME, 0, 2, 2, 0);
     right = right && vn_networks(vn_relations(1, causes, 4, stalls, 4, network, 1)) == 1;
     right = right && vn_networks(vn_relations64(1, causes, 8, stalls, 8, network + 1, 1)) == 1;
     right = right && network[0] == 0 && network[1] == 0;
@@ -223,6 +255,7 @@ int main(void)
     check_side_by_side();
     check_listings();
     check_protocol_refusals();
+    check_fields();
     check_full();
     check_mapping_refusals();
     if (wrong_lines != 0) {

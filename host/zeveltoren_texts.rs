@@ -44,8 +44,9 @@ pub enum Paper {
 #[derive(Clone, Copy, Debug, PartialEq, Eq)]
 pub enum Refusal {
     /// 1 to 15 of the paper; 9 and 15 of a mapping by the limits of its header.
-    /// Lines count from 1; 0 is the whole text.
-    Text { number: u8, paper: Paper, line: usize },
+    /// Lines count from 1; 0 is the whole text. So do the fields of a line, of which
+    /// the first bad one is told; 0 is the whole line or text.
+    Text { number: u8, paper: Paper, line: usize, field: usize },
     /// 16: the listing is longer than the output.
     Room { needed: usize },
 }
@@ -63,7 +64,7 @@ pub fn judge(protocol: &[u8], mapping: &[u8], out: &mut [u8]) -> Result<usize, R
 }
 
 /// Bits 0 to 7 are the refusal number, 8 to 15 the paper, 16 to 31 the line,
-/// 32 to 47 the length, or with 16 the length needed.
+/// 32 to 47 the length, or with 16 the length needed, 48 to 55 the field.
 pub fn taken_apart(packed: u64) -> Result<usize, Refusal> {
     let length = (packed >> 32 & 0xffff) as usize;
     match (packed & 0xff) as u8 {
@@ -71,7 +72,8 @@ pub fn taken_apart(packed: u64) -> Result<usize, Refusal> {
         16 => Err(Refusal::Room { needed: length }),
         number => {
             let paper = if packed >> 8 & 0xff == 0 { Paper::Protocol } else { Paper::Mapping };
-            Err(Refusal::Text { number, paper, line: (packed >> 16 & 0xffff) as usize })
+            let (line, field) = (packed >> 16 & 0xffff, packed >> 48 & 0xff);
+            Err(Refusal::Text { number, paper, line: line as usize, field: field as usize })
         }
     }
 }
@@ -98,11 +100,9 @@ pub fn judge_packed(protocol: &[u8], mapping: &[u8], out: &mut [u8]) -> u64 {
     }
 }
 
-/// Whether a protocol text is accepted: the refusal's number, 0 when it is,
-/// and the line that the refusal tells.
-pub fn check_protocol(text: &[u8]) -> (u8, usize) {
-    let packed = check_protocol_packed(text);
-    ((packed & 0xff) as u8, (packed >> 16 & 0xffff) as usize)
+/// Whether a protocol text is accepted, and if not why and where.
+pub fn check_protocol(text: &[u8]) -> Result<(), Refusal> {
+    taken_apart(check_protocol_packed(text)).map(|_| ())
 }
 
 /// The same, as it comes, in the places that `taken_apart` reads: the paper

@@ -198,6 +198,21 @@ static inline void vn_set_pair64(uint8_t *table, unsigned from, unsigned to)
  * protocol first, then the mapping, of which a line is refused by VN_SHAPE,
  * VN_FULL, VN_UNMATCHED or VN_NETWORK: a `map` line too many for its header is
  * VN_FULL, whatever its name and its network.
+ *
+ * Six of them tell a field of the line, counted from 1; where several fields are
+ * bad in that way it is the first. All others tell 0, the whole line or text.
+ *
+ *   VN_SHAPE      an unknown record word 1; of `message` the type 3, of `state`
+ *                 the controller 2 and the kind 4, of `cell` the controller 2 and
+ *                 `stall` or `go` 5. 0 where the words that are there are right
+ *                 and only the count of fields is not
+ *   VN_NAME       the declared name: of `message` and `event` 2, of `state` 3
+ *   VN_UNKNOWN    the state 3, the trigger 4, the next state 6, a message sent 7
+ *                 to 14
+ *   VN_TWICE      as VN_NAME
+ *   VN_UNMATCHED  2 where the line names another message than the next; 0 where
+ *                 it is one too many, or the text ends early
+ *   VN_NETWORK    3
  */
 #define VN_TOO_BIG 1       /* the text has more than 49,152 bytes; line 0 */
 #define VN_NO_END 2        /* the last line does not end with byte 10 */
@@ -249,7 +264,9 @@ static inline void vn_set_pair64(uint8_t *table, unsigned from, unsigned to)
  *   bits  8 to 15  the paper that a refusal speaks of
  *   bits 16 to 31  the line that it tells, counted from 1; 0: the whole text
  *   bits 32 to 47  the length of the listing; with VN_ROOM the length needed
- *   bits 48 to 63  0
+ *   bits 48 to 55  the field that a refusal tells, counted from 1; 0: the whole
+ *                  line or text
+ *   bits 56 to 63  0
  *
  * Whatever is not said to have a value is 0.
  *
@@ -269,6 +286,10 @@ static inline unsigned vn_paper(uint64_t answer) { return (unsigned)(answer >> 8
 /* Bits 16 to 31: the line that a refusal tells. */
 static inline unsigned vn_line(uint64_t answer) { return (unsigned)(answer >> 16 & 0xffff); }
 
+/* Bits 48 to 55, of the calls on texts: the field of that line, 0 where the whole
+ * line or text is meant. (Of the relations call these bits are of the joins.) */
+static inline unsigned vn_field(uint64_t answer) { return (unsigned)(answer >> 48 & 0xff); }
+
 /* Bits 32 to 47: the length of the listing, 0 when the call was refused. */
 static inline size_t vn_listing_length(uint64_t answer)
 {
@@ -286,12 +307,15 @@ static inline size_t vn_listing_needed(uint64_t answer)
 /*
  * Whether a protocol text is accepted, and if not why and where. Any bytes
  * are answered. The returned number has the layout of the two calls above, and
- * vn_refusal, vn_paper and vn_line read it:
+ * vn_refusal, vn_paper, vn_line and vn_field read it:
  *
  *   bits  0 to  7  the refusal number, 1 to 13; 0 when the text is accepted
  *   bits  8 to 15  the paper, VN_PAPER_PROTOCOL, which is 0
  *   bits 16 to 31  the line that it tells, counted from 1; 0: the whole text
- *   bits 32 to 63  0: there is no listing
+ *   bits 32 to 47  0: there is no listing
+ *   bits 48 to 55  the field that it tells, counted from 1; 0: the whole line or
+ *                  text
+ *   bits 56 to 63  0
  *
  * What the caller owes is what vn_relations asks: the pointer is good for as
  * many bytes as the length says, and is not NULL.
