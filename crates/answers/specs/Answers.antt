@@ -56,11 +56,12 @@ pub record Small (a : Answer) : Type 0 where
   pub number : a .refusal .number < 256
   pub paper : a .paper < 256
   pub line : a .refusal .line < 65536
+  pub field : a .refusal .field < 256
   pub length : shownLength a < 65536
 
--- Bits 0 to 7 the refusal number, 8 to 15 the paper, 16 to 31 the line, 32 to 47 the length (with 16: the length needed), the rest 0.
+-- Bits 0 to 7 the refusal number, 8 to 15 the paper, 16 to 31 the line, 32 to 47 the length (with 16: the length needed), 48 to 55 the field, the rest 0.
 unfoldable pub packedAnswer : Answer → ℕ
-packedAnswer a = a .refusal .number + a .paper * 256 + a .refusal .line * 65536 + shownLength a * 4294967296
+packedAnswer a = a .refusal .number + a .paper * 256 + a .refusal .line * 65536 + shownLength a * 4294967296 + a .refusal .field * 281474976710656
 
 -- What a host reads out of the packed number.
 pub record Unpacked (k : ℕ) (a : Answer) : Type 0 where
@@ -68,4 +69,5 @@ pub record Unpacked (k : ℕ) (a : Answer) : Type 0 where
   pub bits-8-15 : a .paper ≡ k / 256 % 256
   pub bits-16-31 : a .refusal .line ≡ k / 65536 % 65536
   pub bits-32-47 : shownLength a ≡ k / 4294967296 % 65536
-  pub bits-48-63 : k / 281474976710656 ≡ 0
+  pub bits-48-55 : a .refusal .field ≡ k / 281474976710656 % 256
+  pub bits-56-63 : k / 72057594037927936 ≡ 0

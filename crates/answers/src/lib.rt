@@ -46,6 +46,7 @@ pub fn no_room(needed: usize) -> Answer
         refusal: Refusal {
             number: papers::ROOM,
             line: 0,
+            field: 0,
         },
         paper: 0,
         length: 0,
@@ -58,7 +59,11 @@ pub fn listed(length: usize) -> Answer
     ensures { λ r. ⌜ r ≡ finished length ⌝ }
 {
     Answer {
-        refusal: Refusal { number: 0, line: 0 },
+        refusal: Refusal {
+            number: 0,
+            line: 0,
+            field: 0,
+        },
         paper: 0,
         length: length,
         needed: 0,
@@ -83,6 +88,7 @@ pub fn packed(a: Answer) -> u64
     let number = a.refusal.number as u64;
     let paper = a.paper as u64;
     let line = a.refusal.line as u64;
+    let field = a.refusal.field as u64;
     let length = shown_length(a) as u64;
-    number + paper * 256 + line * 65536 + length * 4294967296
+    number + paper * 256 + line * 65536 + length * 4294967296 + field * 281474976710656
 }

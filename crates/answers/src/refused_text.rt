@@ -23,5 +23,6 @@ pub fn put_refused(out: &mut [u8], why: Refusal, paper: u8) -> usize
     let b = more_tabbed(out, a, why.number as u32);
     let c = more_tabbed(out, b, paper as u32);
     let d = more_tabbed(out, c, why.line as u32);
-    text::writers::more(out, d, &text::words::NEWLINE)
+    let e = more_tabbed(out, d, why.field as u32);
+    text::writers::more(out, e, &text::words::NEWLINE)
 }

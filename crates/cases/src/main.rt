@@ -9,12 +9,12 @@
 // input, and at a line that is not of this form. Where the input ends within a text, the text is what there is of it.
 //
 // What is printed for a protocol text:
-//   refused NUMBER 0 LINE
+//   refused NUMBER 0 LINE FIELD
 //   accepted MESSAGES EVENTS STATES CELLS causes ROW .. stalls ROW ..
 // The counts are decimal. There is a row for each message: the messages that it causes, or stalls, as a number in
 // hexadecimal whose bit j says that it causes, or stalls, message j.
 // Where the protocol of a judge item is accepted, the same line goes on with the mapping's answer:
-//   refused NUMBER 1 LINE
+//   refused NUMBER 1 LINE FIELD
 //   networks NETWORK ..
 // Everything in a line is parted by one blank.
 
@@ -133,11 +133,12 @@ fn print_networks(networks: [Network; tables::MESSAGES], count: usize)
     }
 }
 
-fn print_refusal(number: u8, paper: usize, line: usize) {
+fn print_refusal(number: u8, paper: usize, line: usize, field: u8) {
     print_word(b"refused");
     print_number(number as usize);
     print_number(paper);
     print_number(line);
+    print_number(field as usize);
 }
 
 fn print_tables(t: Tables)
@@ -164,7 +165,7 @@ fn print_reading(r: Reading)
     if r.refusal.number == 0 {
         print_tables(t);
     } else {
-        print_refusal(r.refusal.number, 0, r.refusal.line);
+        print_refusal(r.refusal.number, 0, r.refusal.line, r.refusal.field);
     }
 }
 
@@ -178,7 +179,7 @@ fn print_mapped(m: Mapped, count: usize)
         print_networks(networks, count);
     } else {
         print_word(b" ");
-        print_refusal(m.refusal.number, 1, m.refusal.line);
+        print_refusal(m.refusal.number, 1, m.refusal.line, m.refusal.field);
     }
 }
 

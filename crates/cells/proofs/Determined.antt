@@ -13,7 +13,7 @@ use Rattle.tables.specs.declared.Cell.{Cell}
 use lib.Dec.{eqb}
 use borrow.Author.Tests.{eqb-true, eqb-false}
 use Rattle.papers.specs.declared.Refusal.{Refusal}
-use Rattle.lines.proofs.Numbers.{one-number}
+use Rattle.lines.proofs.Reasons.{one-number}
 use Rattle.cells.specs.declared.CellLine.{CellLine}
 use Rattle.cells.specs.Told.{CellTold}
 

@@ -24,7 +24,7 @@ use Rattle.tables.specs.names.Names.{messageAt, eventAt, stateAt, isMessage, is
 use Rattle.text.specs.Line.{Line, field, says}
 use Rattle.lines.specs.Line.{cell, cellController, messageNo, triggerOf, outcomeOf, sentFields, sentOf, cellOf}
 use Rattle.lines.specs.Checks.{shaped, isTrigger, isCache, allMessages, knownCell, stallInStable, conflict}
-use Rattle.lines.proofs.Numbers.{tells-number, one-number, lineNumber, refuses}
+use Rattle.lines.proofs.Reasons.{Reason, tells-number, one-number, lineReason, refuses}
 use Rattle.lines.proofs.Sections.{a-cell}
 use Rattle.lines.proofs.Both.{and-left, and-right}
 use Rattle.cells.specs.declared.CellLine.{CellLine}
@@ -36,14 +36,14 @@ use Rattle.tables.proofs.Given.{given, given-declared}
 
 -- ---- what is known of a line that is not refused
 
-module _ (t : Tables) (f : Line) (e : lineNumber cell t f ≡ 0) where
+module _ (t : Tables) (f : Line) (e : lineReason cell t f .number ≡ 0) where
   pub was-shaped : shaped cell f ≡ true
   was-shaped = go (shaped cell f) refl
     where
       go : (b : Bool) → shaped cell f ≡ b → shaped cell f ≡ true
       go true p = p
       go false p =
-          absurd (omega (arith, sym (in-order t f false (knownCell t f) (leb 512 (t .«cell_count»)) (stallInStable cell t f) (conflict cell t f) p refl refl refl refl) ∙ e))
+          absurd (omega (arith, ap (λ (r : Reason). r .number) (sym (in-order t f false (knownCell t f) (leb 512 (t .«cell_count»)) (stallInStable cell t f) (conflict cell t f) p refl refl refl refl)) ∙ e))
 
   pub was-known : knownCell t f ≡ true
   was-known = go (knownCell t f) refl
@@ -51,7 +51,7 @@ module _ (t : Tables) (f : Line) (e : lineNumber cell t f ≡ 0) where
       go : (b : Bool) → knownCell t f ≡ b → knownCell t f ≡ true
       go true p = p
       go false p =
-          absurd (omega (arith, sym (in-order t f true false (leb 512 (t .«cell_count»)) (stallInStable cell t f) (conflict cell t f) was-shaped p refl refl refl) ∙ e))
+          absurd (omega (arith, ap (λ (r : Reason). r .number) (sym (in-order t f true false (leb 512 (t .«cell_count»)) (stallInStable cell t f) (conflict cell t f) was-shaped p refl refl refl)) ∙ e))
 
 -- ---- the numbers of such a line
 
@@ -113,7 +113,7 @@ sent-known t f h k =
     ))
     (shaped-way f h)
 
-pub cell-of-ok : (t : Tables) (f : Line) → lineNumber cell t f ≡ 0 → CellOk (t .«message_count») (t .«event_count») (t .«state_count») (cellOf t f)
+pub cell-of-ok : (t : Tables) (f : Line) → lineReason cell t f .number ≡ 0 → CellOk (t .«message_count») (t .«event_count») (t .«state_count») (cellOf t f)
 unfolding cellOf
 cell-of-ok t f e =
     let k = was-known t f e in
@@ -139,6 +139,6 @@ cell-ok k line messages message-count events event-count states state-count cell
     let t = given messages message-count events event-count states state-count cells count in
     let d = given-declared messages message-count events event-count states state-count cells count in
     let f = split 9 line in
-    let n : lineNumber cell t f ≡ r .refusal .number =
-    sym (tells-number (lineNumber cell t f) k) ∙ one-number (sym (refuses line t cell (lineNumber cell t f) k (a-cell f first) refl) ∙ c .told t d refl refl) in
+    let n : lineReason cell t f .number ≡ r .refusal .number =
+    sym (tells-number (lineReason cell t f) k) ∙ one-number (sym (refuses line t cell (lineReason cell t f) k (a-cell f first) refl) ∙ c .told t d refl refl) in
     subst (λ (x : Cell). CellOk message-count event-count state-count x) (sym (c .cell t d z)) (cell-of-ok t f (n ∙ z))

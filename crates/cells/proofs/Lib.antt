@@ -1,3 +1,4 @@
+mod Unknown
 pub mod Judging
 pub mod Determined
 pub mod InRange

@@ -11,10 +11,10 @@ use Rattle.tables.specs.declared.Cell.{Cell}
 use Rattle.tables.specs.declared.Tables.{Tables}
 use Rattle.tables.specs.Tables.{noCell}
 use Rattle.tables.specs.Given.{Declared}
-use Rattle.papers.specs.Checks.{refusal, firstOf}
+use Rattle.papers.specs.Checks.{fieldRefusal, firstOf}
 use Rattle.text.specs.Line.{Line}
 use Rattle.lines.specs.Line.{cell, cellOf}
-use Rattle.lines.specs.Checks.{shaped, knownCell, stallInStable, sectionChecks}
+use Rattle.lines.specs.Checks.{shaped, knownCell, unknownField, stallInStable, sectionChecks}
 use Rattle.lines.specs.Told.{Refuses}
 use Rattle.cells.specs.declared.readings.CellReading.{CellReading}
 use Rattle.cells.specs.declared.CellLine.{CellLine}
@@ -31,8 +31,8 @@ pub record CellTold
   pub cleared : ¬ (r .refusal .number ≡ 0) → r .cell ≡ noCell
 
 -- A refused line answers the cleared cell.
-abbrev pub refusedLine : ℕ → ℕ → CellLine
-refusedLine number k = record { refusal = refusal number k; cell = noCell }
+abbrev pub refusedLine : ℕ → ℕ → ℕ → CellLine
+refusedLine number field k = record { refusal = fieldRefusal number k field; cell = noCell }
 
 -- ---- a line that is shaped, by what was read of it
 
@@ -40,6 +40,7 @@ refusedLine number k = record { refusal = refusal number k; cell = noCell }
 pub record ReadAs (t : Tables) (f : Line) (at : CellReading) : Type 0 where
   pub shape : shaped cell f ≡ true
   pub known : at .known ≡ knownCell t f
+  pub first-bad : at .field ≡ unknownField cell t f
   pub stuck : at .known ≡ true → at .stuck ≡ stallInStable cell t f
   pub cell : at .known ≡ true → at .cell ≡ cellOf t f
 

@@ -27,15 +27,16 @@ pub struct CellLine {
     pub cell: Cell,
 }
 
-// The nth line, which is refused, answers the cleared cell.
-fn refused(number: u8, nth: usize) -> CellLine
-    ensures { λ r. ⌜ r ≡ refusedLine number nth ⌝ }
+// The nth line, which is refused for this field of it, answers the cleared cell.
+fn refused(number: u8, field: u8, nth: usize) -> CellLine
+    ensures { λ r. ⌜ r ≡ refusedLine number field nth ⌝ }
 {
     let cell = tables::no_cell();
     CellLine {
         refusal: Refusal {
             number: number,
             line: nth,
+            field: field,
         },
         cell: cell,
     }
@@ -47,20 +48,24 @@ fn judged(at: CellReading, nth: usize, cells: [Cell; tables::CELLS], count: usiz
     ensures { λ r. ⌜ CellJudged at nth cells count r ⌝ }
 {
     if !at.known {
-        return refused(papers::UNKNOWN, nth);
+        return refused(papers::UNKNOWN, at.field, nth);
     }
     if tables::CELLS <= count {
-        return refused(papers::FULL, nth);
+        return refused(papers::FULL, 0, nth);
     }
     if at.stuck {
-        return refused(papers::STALL_STABLE, nth);
+        return refused(papers::STALL_STABLE, 0, nth);
     }
     let cell = at.cell;
     if tables::conflicts::any_clash(cells, count, cell) {
-        return refused(papers::CONFLICT, nth);
+        return refused(papers::CONFLICT, 0, nth);
     }
     CellLine {
-        refusal: Refusal { number: 0, line: 0 },
+        refusal: Refusal {
+            number: 0,
+            line: 0,
+            field: 0,
+        },
         cell: cell,
     }
 }
@@ -84,7 +89,7 @@ pub fn cell_line(
 {
     let shape = crate::shapes::shape_of(line, f);
     match shape {
-        Shape::Wrong => refused(papers::SHAPE, nth),
+        Shape::Wrong(field) => refused(papers::SHAPE, field, nth),
         Shape::Stall(whose) => {
             let at = crate::readings::stall_of(
                 line,

@@ -23,9 +23,10 @@ pub enum FoundTrigger {
     Nothing,
 }
 
-// Where a cell stands, where its state and its trigger are known.
+// Where a cell stands, where its state and its trigger are known; else the first field that is not.
 pub struct Place {
     pub known: bool,
+    pub field: u8,
     pub state: State,
     pub trigger: Trigger,
 }
@@ -84,6 +85,7 @@ pub(crate) fn place_of(
     let FoundState::At(state) = found else {
         return Place {
             known: false,
+            field: 3,
             state: State(0),
             trigger: Trigger::Message(Message(0)),
         };
@@ -93,12 +95,14 @@ pub(crate) fn place_of(
     let FoundTrigger::At(trigger) = told else {
         return Place {
             known: false,
+            field: 4,
             state: State(0),
             trigger: Trigger::Message(Message(0)),
         };
     };
     Place {
         known: true,
+        field: 0,
         state: state,
         trigger: trigger,
     }

@@ -19,20 +19,22 @@ use tables::Stability;
 use tables::StateRow;
 use text::Fields;
 
-// A cell as it is read, where all that it names is known; it is stuck where it stalls in a stable state.
+// A cell as it is read, where all that it names is known, and else the first field that is not; it is stuck where it stalls in a stable state.
 pub struct CellReading {
     pub known: bool,
+    pub field: u8,
     pub stuck: bool,
     pub cell: Cell,
 }
 
-// A line whose fields name something that is not known.
-fn unread() -> CellReading
-    ensures { λ r. ⌜ r ≡ noReading ⌝ }
+// A line of which this field is the first to name something that is not known.
+fn unread(field: u8) -> CellReading
+    ensures { λ r. ⌜ r ≡ noReading field ⌝ }
 {
     let cell = tables::no_cell();
     CellReading {
         known: false,
+        field: field,
         stuck: false,
         cell: cell,
     }
@@ -81,7 +83,7 @@ pub(crate) fn stall_of(
         state_count,
     );
     if !at.known {
-        return unread();
+        return unread(at.field);
     }
     let state = at.state;
     let trigger = at.trigger;
@@ -94,6 +96,7 @@ pub(crate) fn stall_of(
     };
     CellReading {
         known: true,
+        field: 0,
         stuck: in_stable(states, state_count, state),
         cell: cell,
     }
@@ -128,7 +131,7 @@ pub(crate) fn go_of(
         state_count,
     );
     if !at.known {
-        return unread();
+        return unread(at.field);
     }
     let to = crate::targets::target_of(
         line,
@@ -140,7 +143,7 @@ pub(crate) fn go_of(
         state_count,
     );
     if !to.known {
-        return unread();
+        return unread(to.field);
     }
     let state = at.state;
     let trigger = at.trigger;
@@ -155,6 +158,7 @@ pub(crate) fn go_of(
     };
     CellReading {
         known: true,
+        field: 0,
         stuck: false,
         cell: cell,
     }

@@ -12,11 +12,12 @@ const STALL_FIELDS: usize = 5;
 
 const MOST_FIELDS: usize = STALL_FIELDS + 1 + tables::SENT;
 
-// What a cell's line is made of: the controller that it names, and whether it stalls or goes on.
+// What a cell's line is made of: the controller that it names, and whether it stalls or goes on; else the field of the first fixed word that
+// is wrong, also where the count is wrong too, and 0 where only that is.
 pub enum Shape {
     Stall(Controller),
     Go(Controller),
-    Wrong,
+    Wrong(u8),
 }
 
 // Five fields with `stall`, or six to fourteen with `go`.
@@ -25,24 +26,29 @@ pub(crate) fn shape_of(line: &[u8], f: Fields) -> Shape
     ensures { λ r. ⌜ r ≡ shapeOf (split 9 (now (line .entry))) ⌝ }
 {
     let n = f.count;
-    if n < STALL_FIELDS {
-        return Shape::Wrong;
+    if n < 2 {
+        return Shape::Wrong(0);
     }
-    if MOST_FIELDS < n {
-        return Shape::Wrong;
-    }
-    let found = lines::words::controller_at(line, f, 1);
-    let FoundController::Is(whose) = found else {
-        return Shape::Wrong;
+    let FoundController::Is(whose) = lines::words::controller_at(line, f, 1) else {
+        return Shape::Wrong(2);
     };
-    if n == STALL_FIELDS {
-        if lines::word_at(line, f, 4, &text::words::STALL) {
+    if n < STALL_FIELDS {
+        return Shape::Wrong(0);
+    }
+    if lines::word_at(line, f, 4, &text::words::STALL) {
+        if n == STALL_FIELDS {
             return Shape::Stall(whose);
         }
-        return Shape::Wrong;
+        return Shape::Wrong(0);
     }
     if lines::word_at(line, f, 4, &text::words::GO) {
+        if n == STALL_FIELDS {
+            return Shape::Wrong(0);
+        }
+        if MOST_FIELDS < n {
+            return Shape::Wrong(0);
+        }
         return Shape::Go(whose);
     }
-    Shape::Wrong
+    Shape::Wrong(5)
 }

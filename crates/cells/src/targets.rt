@@ -13,16 +13,18 @@ use tables::names::FoundMessage;
 use tables::names::FoundState;
 use text::Fields;
 
-// The messages that a line sends, where all are known.
+// The messages that a line sends, where all are known; else the first field that is not.
 pub struct Sent {
     pub known: bool,
+    pub field: u8,
     pub sent: [Message; tables::SENT],
     pub count: u8,
 }
 
-// Where a cell goes to and what it sends, where all of that is known.
+// Where a cell goes to and what it sends, where all of that is known; else the first field that is not.
 pub struct Target {
     pub known: bool,
+    pub field: u8,
     pub next: State,
     pub sent: [Message; tables::SENT],
     pub count: u8,
@@ -46,8 +48,10 @@ fn sent_of(
         let found = tables::names::message_named(messages, message_count, part);
         let FoundMessage::At(m) = found else {
             let declared = false;
+            let field = (7 + j) as u8;
             return Sent {
                 known: declared,
+                field: field,
                 sent: [Message(0); tables::SENT],
                 count: 0,
             };
@@ -58,6 +62,7 @@ fn sent_of(
     let count = n as u8;
     Sent {
         known: true,
+        field: 0,
         sent: sent,
         count: count,
     }
@@ -81,6 +86,7 @@ pub(crate) fn target_of(
     let FoundState::At(next) = found else {
         return Target {
             known: false,
+            field: 6,
             next: State(0),
             sent: [Message(0); tables::SENT],
             count: 0,
@@ -90,6 +96,7 @@ pub(crate) fn target_of(
     if !all.known {
         return Target {
             known: false,
+            field: all.field,
             next: State(0),
             sent: [Message(0); tables::SENT],
             count: 0,
@@ -98,6 +105,7 @@ pub(crate) fn target_of(
     let sent = all.sent;
     Target {
         known: true,
+        field: 0,
         next: next,
         sent: sent,
         count: all.count,

@@ -10,7 +10,7 @@ use lib.ListN.{replicate}
 use Rattle.tables.specs.declared.Tables.{Tables}
 use Rattle.tables.specs.Tables.{noMessage, noEvent, noState}
 use Rattle.papers.specs.declared.Refusal.{Refusal}
-use Rattle.lines.proofs.Numbers.{one-number}
+use Rattle.lines.proofs.Reasons.{one-number}
 use Rattle.declarations.proofs.named_fields.Declares.{tablesOf, rows-same}
 use Rattle.declarations.specs.declared.messages.MessageLine.{MessageLine}
 use Rattle.declarations.specs.messages.Told.{OnlyMessages, MessageTold}

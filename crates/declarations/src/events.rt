@@ -5,7 +5,7 @@ ghost use Prim.Native.Nat.{_<_, _≤_};
 ghost use Rattle.text.specs.Parts.{split};
 ghost use Rattle.text.specs.Words.{eventWord};
 ghost use Rattle.tables.specs.Tables.{noEvent};
-ghost use Rattle.papers.specs.Checks.{refusal};
+ghost use Rattle.papers.specs.Checks.{fieldRefusal};
 ghost use Rattle.text.specs.Line.{field, says};
 ghost use Rattle.lines.specs.Told.{FieldsAre};
 ghost use Rattle.declarations.specs.events.Told.{EventTold};
@@ -16,6 +16,9 @@ use tables::MessageRow;
 use tables::names::FoundEvent;
 use text::Fields;
 
+// The field of the name, counted from 1.
+const NAME_FIELD: u8 = 2;
+
 // How the line is refused, and the event where it is not.
 pub struct EventLine {
     pub refusal: Refusal,
@@ -23,8 +26,8 @@ pub struct EventLine {
 }
 
 // The nth line, which is refused, declares no event.
-fn no_event(number: u8, nth: usize) -> EventLine
-    ensures { λ r. ⌜ (r .refusal ≡ refusal number nth) × (r .row ≡ noEvent) ⌝ }
+fn no_event(number: u8, nth: usize, field: u8) -> EventLine
+    ensures { λ r. ⌜ (r .refusal ≡ fieldRefusal number nth field) × (r .row ≡ noEvent) ⌝ }
 {
     let name = text::names::no_name();
     let row = EventRow { name: name };
@@ -32,6 +35,7 @@ fn no_event(number: u8, nth: usize) -> EventLine
         refusal: Refusal {
             number: number,
             line: nth,
+            field: field,
         },
         row: row,
     }
@@ -69,24 +73,28 @@ pub fn event_line(
     ensures { λ r. ⌜ EventTold nth (now (line .entry)) messages «message_count» events count r ⌝ }
 {
     if !lines::shapes::event_shape(line, f) {
-        return no_event(papers::SHAPE, nth);
+        return no_event(papers::SHAPE, nth, 0);
     }
     if !crate::named_fields::name_fits(line, f, 1) {
-        return no_event(papers::NAME, nth);
+        return no_event(papers::NAME, nth, NAME_FIELD);
     }
     if crate::named_fields::message_declared(line, f, 1, messages, message_count) {
-        return no_event(papers::TWICE, nth);
+        return no_event(papers::TWICE, nth, NAME_FIELD);
     }
     if event_declared(line, f, 1, events, count) {
-        return no_event(papers::TWICE, nth);
+        return no_event(papers::TWICE, nth, NAME_FIELD);
     }
     if tables::EVENTS <= count {
-        return no_event(papers::FULL, nth);
+        return no_event(papers::FULL, nth, 0);
     }
     let name = crate::named_fields::name_at(line, f, 1);
     let row = EventRow { name: name };
     EventLine {
-        refusal: Refusal { number: 0, line: 0 },
+        refusal: Refusal {
+            number: 0,
+            line: 0,
+            field: 0,
+        },
         row: row,
     }
 }

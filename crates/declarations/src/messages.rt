@@ -5,15 +5,20 @@ ghost use Prim.Native.Nat.{_≤_};
 ghost use Rattle.text.specs.Parts.{split};
 ghost use Rattle.text.specs.Words.{messageWord};
 ghost use Rattle.tables.specs.Tables.{noMessage};
-ghost use Rattle.papers.specs.Checks.{refusal};
-ghost use Rattle.text.specs.Line.{says};
+ghost use Rattle.papers.specs.Checks.{fieldRefusal};
+ghost use Rattle.text.specs.Line.{field, says};
+ghost use Rattle.lines.specs.Line.{message, kindOf};
+ghost use Rattle.lines.specs.Checks.{shaped};
 ghost use Rattle.lines.specs.Told.{FieldsAre};
 ghost use Rattle.declarations.specs.messages.Told.{MessageTold};
-use lines::words::FoundKind;
+use lines::shapes::MessageWords;
 use papers::Refusal;
 use tables::Kind;
 use tables::MessageRow;
 use text::Fields;
+
+// The field of the name, counted from 1.
+const NAME_FIELD: u8 = 2;
 
 // How the line is refused, and the message where it is not.
 pub struct MessageLine {
@@ -22,8 +27,8 @@ pub struct MessageLine {
 }
 
 // The nth line, which is refused, declares no message.
-fn no_message(number: u8, nth: usize) -> MessageLine
-    ensures { λ r. ⌜ (r .refusal ≡ refusal number nth) × (r .row ≡ noMessage) ⌝ }
+fn no_message(number: u8, nth: usize, field: u8) -> MessageLine
+    ensures { λ r. ⌜ (r .refusal ≡ fieldRefusal number nth field) × (r .row ≡ noMessage) ⌝ }
 {
     let name = text::names::no_name();
     let row = MessageRow {
@@ -34,6 +39,43 @@ fn no_message(number: u8, nth: usize) -> MessageLine
         refusal: Refusal {
             number: number,
             line: nth,
+            field: field,
+        },
+        row: row,
+    }
+}
+
+// A message's line that is shaped, by its name.
+fn named_message(
+    line: &[u8],
+    f: Fields,
+    nth: usize,
+    kind: Kind,
+    messages: [MessageRow; tables::MESSAGES],
+    count: usize,
+) -> MessageLine
+    requires { ⌜ FieldsAre (now line) f × (says (split 9 (now line)) 0 messageWord ≡ true) × (count ≤ 64) × (shaped message (split 9 (now line)) ≡ true) × (kind ≡ kindOf (field (split 9 (now line)) 2)) ⌝ }
+    ensures { λ r. ⌜ MessageTold nth (now (line .entry)) messages count r ⌝ }
+{
+    if !crate::named_fields::name_fits(line, f, 1) {
+        return no_message(papers::NAME, nth, NAME_FIELD);
+    }
+    if crate::named_fields::message_declared(line, f, 1, messages, count) {
+        return no_message(papers::TWICE, nth, NAME_FIELD);
+    }
+    if tables::MESSAGES <= count {
+        return no_message(papers::FULL, nth, 0);
+    }
+    let name = crate::named_fields::name_at(line, f, 1);
+    let row = MessageRow {
+        name: name,
+        kind: kind,
+    };
+    MessageLine {
+        refusal: Refusal {
+            number: 0,
+            line: 0,
+            field: 0,
         },
         row: row,
     }
@@ -50,25 +92,9 @@ pub fn message_line(
     requires { ⌜ FieldsAre (now line) f × (says (split 9 (now line)) 0 messageWord ≡ true) × (count ≤ 64) ⌝ }
     ensures { λ r. ⌜ MessageTold nth (now (line .entry)) messages count r ⌝ }
 {
-    let FoundKind::Is(kind) = lines::shapes::message_shape(line, f) else {
-        return no_message(papers::SHAPE, nth);
-    };
-    if !crate::named_fields::name_fits(line, f, 1) {
-        return no_message(papers::NAME, nth);
-    }
-    if crate::named_fields::message_declared(line, f, 1, messages, count) {
-        return no_message(papers::TWICE, nth);
-    }
-    if tables::MESSAGES <= count {
-        return no_message(papers::FULL, nth);
-    }
-    let name = crate::named_fields::name_at(line, f, 1);
-    let row = MessageRow {
-        name: name,
-        kind: kind,
-    };
-    MessageLine {
-        refusal: Refusal { number: 0, line: 0 },
-        row: row,
+    let words = lines::shapes::message_shape(line, f);
+    match words {
+        MessageWords::Wrong(field) => no_message(papers::SHAPE, nth, field),
+        MessageWords::Are(kind) => named_message(line, f, nth, kind, messages, count),
     }
 }

@@ -68,7 +68,7 @@ after-small x z y old new r c = go (eqb (mappedFor (readProtocol x .tables) y .r
         small-listed (j .listing) old new r (omega (arith, judge-length x (j .listing) (mappingOf (mappedFor (readProtocol x .tables) y .networks)) z (j .allowed))) (j .listed)
     go false e =
         let low = mapping-low (messagesOf (readProtocol x .tables)) y in
-        small-refused (mappedFor (readProtocol x .tables) y .refusal) 1 r (low .0) (omega arith) (low .1)
+        small-refused (mappedFor (readProtocol x .tables) y .refusal) 1 r (low .0) (omega arith) (low .1) (omega (arith, low .2))
         (c .mapping-refused (eqb-false (mappedFor (readProtocol x .tables) y .refusal .number) 0 e) .answer)
 
 pub judge-small : JudgeSmall
@@ -78,4 +78,4 @@ judge-small x y old new r c = go (eqb (readProtocol x .refusal .number) 0) refl
     go true e = let z = eqb-true (readProtocol x .refusal .number) 0 e in after-small x z y old new r (c .protocol-accepted z)
     go false e =
         let low = protocol-low x in
-        small-refused (readProtocol x .refusal) 0 r (low .0) (omega arith) (low .1) (c .protocol-refused (eqb-false (readProtocol x .refusal .number) 0 e) .answer)
+        small-refused (readProtocol x .refusal) 0 r (low .0) (omega arith) (low .1) (omega (arith, low .2)) (c .protocol-refused (eqb-false (readProtocol x .refusal .number) 0 e) .answer)

@@ -12,7 +12,7 @@ use Rattle.tables.proofs.Given.{given}
 use Rattle.lines.proofs.Sections.{not-in}
 use Rattle.text.specs.Line.{field, says}
 use Rattle.lines.specs.Line.{Section, message, event, state, cell, unknown, sectionOf}
-use Rattle.lines.specs.declared.words.FoundKind.{FoundKind}
+use Rattle.lines.specs.declared.shapes.MessageWords.{MessageWords}
 use Rattle.lines.specs.words.Found.{foundController}
 use Rattle.lines.specs.declared.words.FoundController.{FoundController}
 use Rattle.lines.specs.Checks.{shaped, laterRead}
@@ -37,7 +37,7 @@ module _ (line : List ℕ) (i : ℕ) where
   controller-at-determined = equal _
 
 module _ (line : List ℕ) where
-  pub message-shape-determined : Determines (λ (r : FoundKind). r ≡ messageShape (split 9 line))
+  pub message-shape-determined : Determines (λ (r : MessageWords). r ≡ messageShape (split 9 line))
   message-shape-determined = equal _
 
   pub event-shape-determined : Determines (λ (r : Bool). r ≡ shaped event (split 9 line))

@@ -1,6 +1,7 @@
 pub mod Both
 pub mod Fields
-pub mod Numbers
+pub mod Reasons
 pub mod Sections
 pub mod Under
+pub mod FieldTold
 pub mod Determined

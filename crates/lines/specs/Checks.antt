@@ -1,13 +1,14 @@
--- How a line of a protocol text is refused: the rows 4 to 11 of the refusal table, in the order of their numbers.
-use Prim.Native.Nat.{ℕ, _+_}
-use mathlib.Core.Bool.{Bool, true, false, not, _&&_, _||_}
-use mathlib.Core.List.{List, [], _∷_}
+-- How a line of a protocol text is refused: the rows 4 to 11 of the refusal table, in the order of their numbers, and the field that each tells.
+use Prim.Native.Nat.{ℕ, suc, _+_}
+use mathlib.Core.Bool.{Bool, true, false, not, _&&_, _||_, cond}
+use mathlib.Core.List.{List, [], _∷_, _++_}
 use lib.ListN.{length, getD}
 use lib.Dec.{eqb, ltb, leb}
 use Rattle.text.specs.Name.{nameRule}
 use Rattle.text.specs.Words.{stallWord, goWord}
 use Rattle.papers.specs.declared.Refusal.{Refusal}
-use Rattle.papers.specs.Checks.{Check, check, firstOf}
+use Rattle.papers.specs.Checks.{Check, check, fieldCheck, firstOf}
+use Rattle.papers.specs.Fields.{Looked, looked, firstBad}
 use Rattle.tables.specs.declared.Controller.{Controller}
 use Rattle.tables.specs.declared.Controller.the-variants.{Cache, Dir}
 use Rattle.tables.specs.declared.Stability.{Stability}
@@ -36,6 +37,22 @@ shaped state f = eqb (length f) 4 && (isController (field f 1) && isStability (f
 shaped cell f = isController (field f 1) && (stallShape f || goShape f)
 shaped unknown f = false
 
+-- C-14: "SHAPE tells the first unknown or wrong fixed word, and 0 if only the count is wrong." A fixed word that is missing because the line is
+-- short is no wrong word.
+abbrev pub wrongWord : Line → ℕ → Bool → Bool
+wrongWord f i right = ltb i (length f) && not right
+
+-- The fixed words of a line, in the order of the fields; an unknown record word is wrong.
+abbrev pub fixedWords : Section → Line → List Looked
+fixedWords message f = looked 3 (wrongWord f 2 (isKind (field f 2))) ∷ []
+fixedWords event f = []
+fixedWords state f = looked 2 (wrongWord f 1 (isController (field f 1))) ∷ looked 4 (wrongWord f 3 (isStability (field f 3))) ∷ []
+fixedWords cell f = looked 2 (wrongWord f 1 (isController (field f 1))) ∷ looked 5 (wrongWord f 4 (says f 4 stallWord || says f 4 goWord)) ∷ []
+fixedWords unknown f = looked 1 true ∷ []
+
+abbrev pub shapeField : Section → Line → ℕ
+shapeField s f = firstBad (fixedWords s f)
+
 -- ---- 5 ORDER: "record of an earlier section than one already read"
 
 abbrev pub laterRead : Section → Tables → Bool
@@ -53,6 +70,14 @@ badName event f = not (nameRule (field f 1))
 badName state f = not (nameRule (field f 2))
 badName cell f = false
 badName unknown f = false
+
+-- The field of the declared name: NAME and TWICE tell it.
+abbrev pub nameField : Section → ℕ
+nameField message = 2
+nameField event = 2
+nameField state = 3
+nameField cell = 0
+nameField unknown = 0
 
 -- ---- 7 UNKNOWN: "state, trigger, next or sent message not declared, or not allowed there"
 
@@ -81,6 +106,27 @@ notKnown event t f = false
 notKnown state t f = false
 notKnown cell t f = not (knownCell t f)
 notKnown unknown t f = false
+
+-- C-14: the names of a cell's line, in the order of the fields. "With several bad fields of the same refusal, the first is told."
+unfoldable pub sentNames : Tables → ℕ → List (List ℕ) → List Looked
+sentNames t k [] = []
+sentNames t k (x ∷ xs) = looked k (not (isMessage t x)) ∷ sentNames t (suc k) xs
+
+abbrev pub goNames : Tables → Controller → Line → List Looked
+goNames t c f = looked 6 (not (isState t c (field f 5))) ∷ sentNames t 7 (sentFields f)
+
+abbrev pub placeNames : Tables → Controller → Line → List Looked
+placeNames t c f = looked 3 (not (isState t c (field f 2))) ∷ looked 4 (not (isTrigger t c (field f 3))) ∷ []
+
+abbrev pub cellNames : Tables → Line → List Looked
+cellNames t f = placeNames t (cellController f) f ++ cond (says f 4 stallWord) [] (goNames t (cellController f) f)
+
+abbrev pub unknownField : Section → Tables → Line → ℕ
+unknownField message t f = 0
+unknownField event t f = 0
+unknownField state t f = 0
+unknownField cell t f = firstBad (cellNames t f)
+unknownField unknown t f = 0
 
 -- ---- 8 TWICE: "name already declared". "Messages and events share one name space; states have one for each controller."
 
@@ -130,11 +176,11 @@ conflict unknown t f = false
 
 abbrev pub sectionChecks : Section → Tables → ℕ → Line → List Check
 sectionChecks s t k f =
-    check 4 k (not (shaped s f))
+    fieldCheck 4 k (shapeField s f) (not (shaped s f))
     ∷ check 5 k (laterRead s t)
-    ∷ check 6 k (badName s f)
-    ∷ check 7 k (notKnown s t f)
-    ∷ check 8 k (twice s t f)
+    ∷ fieldCheck 6 k (nameField s) (badName s f)
+    ∷ fieldCheck 7 k (unknownField s t f) (notKnown s t f)
+    ∷ fieldCheck 8 k (nameField s) (twice s t f)
     ∷ check 9 k (full s t)
     ∷ check 10 k (stallInStable s t f)
     ∷ check 11 k (conflict s t f)

@@ -1,6 +1,7 @@
 pub mod Line
 pub mod Checks
 pub mod Told
+pub mod FieldTold
 pub mod words
 pub mod shapes
 pub mod misplaced

@@ -1,40 +1,70 @@
 // How a line is refused that stands behind a later section, or is of no section.
 ghost use mathlib.Core.Path.{_≡_};
-ghost use mathlib.Core.Bool.{false, cond};
+ghost use mathlib.Core.Bool.{false};
 ghost use Rattle.text.specs.Parts.{split};
 ghost use Rattle.text.specs.Words.{cellWord};
-ghost use Rattle.papers.specs.Checks.{refusal};
+ghost use Rattle.papers.specs.Checks.{refusal, fieldRefusal};
 ghost use Rattle.text.specs.Line.{says};
-ghost use Rattle.lines.specs.Line.{message, state};
-ghost use Rattle.lines.specs.Checks.{shaped};
+ghost use Rattle.lines.specs.Line.{message, event, state};
 ghost use Rattle.lines.specs.Told.{FieldsAre};
-ghost use Rattle.lines.specs.misplaced.Place.{Misplaced};
+ghost use Rattle.lines.specs.misplaced.Place.{lateRefusal, Misplaced};
+use crate::shapes::MessageWords;
 use crate::shapes::StateWords;
-use crate::words::FoundKind;
 use papers::Refusal;
 use text::Fields;
 
-// Whether a message's line is shaped.
-fn message_shaped(line: &[u8], f: Fields) -> bool
-    requires { ⌜ FieldsAre (now line) f ⌝ }
-    ensures { λ r. ⌜ r ≡ shaped message (split 9 (now (line .entry))) ⌝ }
+// ORDER: the nth line comes too late.
+fn too_late(nth: usize) -> Refusal
+    ensures { λ r. ⌜ r ≡ refusal 5 nth ⌝ }
 {
-    let found = crate::shapes::message_shape(line, f);
-    match found {
-        FoundKind::Is(_) => true,
-        FoundKind::Nothing => false,
+    Refusal {
+        number: papers::ORDER,
+        line: nth,
+        field: 0,
     }
 }
 
-// Whether a state's line is shaped.
-fn state_shaped(line: &[u8], f: Fields) -> bool
+// SHAPE, and the field that is wrong.
+fn misshapen(nth: usize, field: u8) -> Refusal
+    ensures { λ r. ⌜ r ≡ fieldRefusal 4 nth field ⌝ }
+{
+    Refusal {
+        number: papers::SHAPE,
+        line: nth,
+        field: field,
+    }
+}
+
+// The smaller number goes first: a line that is not shaped is not asked for its place.
+fn late_message(line: &[u8], f: Fields, nth: usize) -> Refusal
     requires { ⌜ FieldsAre (now line) f ⌝ }
-    ensures { λ r. ⌜ r ≡ shaped state (split 9 (now (line .entry))) ⌝ }
+    ensures { λ r. ⌜ r ≡ lateRefusal message nth (split 9 (now (line .entry))) ⌝ }
+{
+    let found = crate::shapes::message_shape(line, f);
+    match found {
+        MessageWords::Are(_) => too_late(nth),
+        MessageWords::Wrong(field) => misshapen(nth, field),
+    }
+}
+
+fn late_event(line: &[u8], f: Fields, nth: usize) -> Refusal
+    requires { ⌜ FieldsAre (now line) f ⌝ }
+    ensures { λ r. ⌜ r ≡ lateRefusal event nth (split 9 (now (line .entry))) ⌝ }
+{
+    if crate::shapes::event_shape(line, f) {
+        return too_late(nth);
+    }
+    misshapen(nth, 0)
+}
+
+fn late_state(line: &[u8], f: Fields, nth: usize) -> Refusal
+    requires { ⌜ FieldsAre (now line) f ⌝ }
+    ensures { λ r. ⌜ r ≡ lateRefusal state nth (split 9 (now (line .entry))) ⌝ }
 {
     let found = crate::shapes::state_shape(line, f);
     match found {
-        StateWords::Are(_, _) => true,
-        StateWords::Nothing => false,
+        StateWords::Are(_, _) => too_late(nth),
+        StateWords::Wrong(field) => misshapen(nth, field),
     }
 }
 
@@ -44,33 +74,13 @@ pub fn misplaced(line: &[u8], f: Fields, nth: usize) -> Refusal
     ensures { λ r. ⌜ Misplaced nth (now (line .entry)) r ⌝ }
 {
     if crate::is_record(line, f, &text::words::MESSAGE) {
-        return late(message_shaped(line, f), nth);
+        return late_message(line, f, nth);
     }
     if crate::is_record(line, f, &text::words::EVENT) {
-        return late(crate::shapes::event_shape(line, f), nth);
+        return late_event(line, f, nth);
     }
     if crate::is_record(line, f, &text::words::STATE) {
-        return late(state_shaped(line, f), nth);
+        return late_state(line, f, nth);
     }
-    Refusal {
-        number: papers::SHAPE,
-        line: nth,
-    }
-}
-
-// The smaller number goes first: a line that is not shaped is not asked for its place.
-fn late(shape: bool, nth: usize) -> Refusal
-    ensures { λ r. ⌜ r ≡ refusal (cond shape 5 4) nth ⌝ }
-{
-    if shape {
-        Refusal {
-            number: papers::ORDER,
-            line: nth,
-        }
-    } else {
-        Refusal {
-            number: papers::SHAPE,
-            line: nth,
-        }
-    }
+    misshapen(nth, 1)
 }

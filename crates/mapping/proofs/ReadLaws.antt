@@ -1,6 +1,6 @@
 -- Laws of the reading of a mapping: the loop over its lines.
 use mathlib.Core.Path.{_≡_, refl, sym, ap, ap₂, _∙_}
-use mathlib.Core.Bool.{Bool, true, false, cond}
+use mathlib.Core.Bool.{Bool, true, cond}
 use mathlib.Core.List.{List, [], _∷_, _++_, map, append-assoc, map-append}
 use Prim.Native.Nat.{ℕ, zero, suc, _+_, _-_, _≤_, _<_}
 use native.Mathlib.Omega.{arith}
@@ -13,7 +13,7 @@ use Rattle.text.specs.Parts.{part, place, split, lines}
 use Rattle.text.specs.Words.{mappingHeader2}
 use Rattle.text.proofs.Lines.{lines-end}
 use Rattle.papers.specs.declared.Refusal.{Refusal}
-use Rattle.papers.specs.Checks.{refusal, none}
+use Rattle.papers.specs.Checks.{refusal, fieldRefusal, none}
 use Rattle.papers.specs.Opening.{openingOf}
 use Rattle.papers.specs.Lined.{Lined}
 use Rattle.papers.proofs.OpeningLaws.{opened}
@@ -21,11 +21,12 @@ use Rattle.papers.proofs.Walk.{NextLine, walk-next}
 use Rattle.tables.specs.declared.MessageRow.{MessageRow}
 use Rattle.mapping.specs.declared.Mapped.{Mapped}
 use Rattle.text.specs.Line.{field}
-use Rattle.mapping.specs.lines.Line.{mapShaped, mapRefusal}
+use Rattle.mapping.specs.declared.lines.MapShape.the-variants.{Wrong as WrongMap}
+use Rattle.mapping.specs.lines.Line.{mapShaped, mapShape, mapRefusal}
 use Rattle.mapping.specs.networks.Networks.{networkOf}
 use Rattle.mapping.specs.Headers.{Header, header1, header2, headerOf}
 use Rattle.mapping.specs.Reading.{mapsRefused, mapsUnless, readMaps, readUnder, readMapping}
-use Rattle.mapping.proofs.lines.LineLaws.{line-shape, line-full, line-many, line-next}
+use Rattle.mapping.proofs.lines.LineLaws.{wrong-shaped, line-shape, line-full, line-many, line-next}
 
 -- ---- one step of the reading
 
@@ -124,9 +125,12 @@ module _ (d : MessageRow) (most : ℕ) (text : List ℕ) (from : ℕ) (messages 
           (ap (λ (j : ℕ). mapRefusal most j (drop i (take count messages)) (i + 2) (split 9 (part text at e))) (g .long) ∙ q))
           ∙ g .goal
 
-      pub going-shape : mapShaped (split 9 (part text at (place 10 text at (length text)))) ≡ false
-          → mapsRefused (refusal 4 (i + 2)) ≡ readMaps most 2 (lines (drop from text)) (take count messages) []
-      going-shape q = refused-by (refusal 4 (i + 2)) (λ z. omega arith) (line-shape most i (i + 2) (split 9 (part text at e)) (drop i (take count messages)) q)
+      pub going-shape : (n : ℕ) → WrongMap n ≡ mapShape (split 9 (part text at (place 10 text at (length text))))
+          → mapsRefused (fieldRefusal 4 (i + 2) n) ≡ readMaps most 2 (lines (drop from text)) (take count messages) []
+      going-shape n q =
+          let w = wrong-shaped (split 9 (part text at e)) n q in
+          refused-by (fieldRefusal 4 (i + 2) n) (λ z. omega arith)
+          (line-shape most i (i + 2) (split 9 (part text at e)) (drop i (take count messages)) (w .0) ∙ ap (fieldRefusal 4 (i + 2)) (w .1))
 
       module _ (s : mapShaped (split 9 (part text at (place 10 text at (length text)))) ≡ true) (o : count ≤ 64) (m : length messages ≡ 64) where
         long-messages : length (take count messages) ≡ count

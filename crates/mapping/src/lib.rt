@@ -7,8 +7,10 @@ ghost use mathlib.Core.List.{[]};
 ghost use Prim.Native.Nat.{_≤_};
 ghost use lib.ListN.{take, drop};
 ghost use Rattle.text.specs.Parts.{lines};
+ghost use Rattle.papers.specs.Checks.{fieldRefusal};
 ghost use Rattle.papers.specs.Lined.{Lined};
 ghost use Rattle.mapping.specs.Reading.{mapsRefused, readMaps, readMapping};
+use crate::lines::MapShape;
 use papers::Refusal;
 use rules::Network;
 use tables::MessageRow;
@@ -34,7 +36,19 @@ fn refuse(why: Refusal) -> Mapped
     }
 }
 
-// The map lines from a place on, of which the header allows `most`. The line of message i is line i + 2.
+// A mapping that is refused at its nth line, for this field.
+fn refuse_at(number: u8, field: u8, nth: usize) -> Mapped
+    ensures { λ r. ⌜ r ≡ mapsRefused (fieldRefusal number nth field) ⌝ }
+{
+    refuse(Refusal {
+        number: number,
+        line: nth,
+        field: field,
+    })
+}
+
+// The map lines from a place on, of which the header allows `most`. The line of message i is line i + 2. A line that is one too many, or that is
+// missing, tells no field: no field of it is wrong.
 fn map_lines(
     text: &[u8],
     from: usize,
@@ -52,23 +66,14 @@ fn map_lines(
     while at < n {
         let e = text::find(text, 10, at, n);
         let nth = i + 2;
-        if !crate::lines::is_map(&text[at..e]) {
-            return refuse(Refusal {
-                number: papers::SHAPE,
-                line: nth,
-            });
+        if let MapShape::Wrong(field) = crate::lines::is_map(&text[at..e]) {
+            return refuse_at(papers::SHAPE, field, nth);
         }
         if i == most {
-            return refuse(Refusal {
-                number: papers::FULL,
-                line: nth,
-            });
+            return refuse_at(papers::FULL, 0, nth);
         }
         if i == count {
-            return refuse(Refusal {
-                number: papers::UNMATCHED,
-                line: nth,
-            });
+            return refuse_at(papers::UNMATCHED, 0, nth);
         }
         let row = messages[i];
         let line = crate::lines::map_line(&text[at..e], nth, row, most);
@@ -82,13 +87,14 @@ fn map_lines(
     }
     if i < count {
         let missing = i + 2;
-        return refuse(Refusal {
-            number: papers::UNMATCHED,
-            line: missing,
-        });
+        return refuse_at(papers::UNMATCHED, 0, missing);
     }
     Mapped {
-        refusal: Refusal { number: 0, line: 0 },
+        refusal: Refusal {
+            number: 0,
+            line: 0,
+            field: 0,
+        },
         networks: networks,
     }
 }

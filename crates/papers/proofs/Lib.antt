@@ -1,4 +1,5 @@
 pub mod Checks
+pub mod Fields
 pub mod Walk
 pub mod OpeningLaws
 pub mod Determined

@@ -6,17 +6,25 @@ use mathlib.Core.List.{List, [], _∷_}
 use lib.ListN.{length, getD}
 use Rattle.papers.specs.declared.Refusal.{Refusal}
 
--- A row of the refusal table: its number, the line that it tells, and whether it is given here.
+-- A row of the refusal table: its number, the line and the field that it tells, and whether it is given here.
 pub record Check : Type 0 where
   pub number : ℕ
   pub line : ℕ
+  pub field : ℕ
   pub given : Bool
 
+-- "Counted from 1; 0 where the whole line or text is meant": a row that tells a field, and one that tells none.
+abbrev pub fieldCheck : ℕ → ℕ → ℕ → Bool → Check
+fieldCheck number line field given = record { number = number; line = line; field = field; given = given }
+
 abbrev pub check : ℕ → ℕ → Bool → Check
-check number line given = record { number = number; line = line; given = given }
+check number line given = fieldCheck number line 0 given
+
+abbrev pub fieldRefusal : ℕ → ℕ → ℕ → Refusal
+fieldRefusal number line field = record { number = number; line = line; field = field }
 
 abbrev pub refusal : ℕ → ℕ → Refusal
-refusal number line = record { number = number; line = line }
+refusal number line = fieldRefusal number line 0
 
 -- Nothing is refused.
 abbrev pub none : Refusal
@@ -25,7 +33,7 @@ none = refusal 0 0
 -- The first check that is given.
 unfoldable pub firstOf : List Check → Refusal
 firstOf [] = none
-firstOf (c ∷ cs) = let rest = firstOf cs in cond (c .given) (refusal (c .number) (c .line)) rest
+firstOf (c ∷ cs) = let rest = firstOf cs in cond (c .given) (fieldRefusal (c .number) (c .line) (c .field)) rest
 
 -- ---- under its row
 
@@ -39,7 +47,7 @@ row cs i = getD cs i noCheck
 
 -- What a check says where it is given.
 abbrev pub told : Check → Refusal
-told c = refusal (c .number) (c .line)
+told c = fieldRefusal (c .number) (c .line) (c .field)
 
 -- The check at a place is given, and none before it.
 pub record FirstGiven (cs : List Check) (i : ℕ) : Type 0 where

@@ -1,3 +1,4 @@
 pub mod Checks
+pub mod Fields
 pub mod Opening
 pub mod Lined

@@ -46,6 +46,8 @@ pub const MOST_BYTES: usize = 49152;
 pub struct Refusal {
     pub number: u8,
     pub line: usize,
+    // counted from 1; 0 where the whole line or text is meant
+    pub field: u8,
 }
 
 // How a text with this header is refused before its lines are read.
@@ -57,18 +59,21 @@ pub fn opening(header: &[u8], text: &[u8]) -> Refusal
         return Refusal {
             number: TOO_BIG,
             line: 0,
+            field: 0,
         };
     }
     if n == 0 {
         return Refusal {
             number: HEADER,
             line: 1,
+            field: 0,
         };
     }
     if text[n - 1] != 10 {
         return Refusal {
             number: NO_END,
             line: text::count(text, 10) + 1,
+            field: 0,
         };
     }
     let e = text::find(text, 10, 0, n);
@@ -76,7 +81,12 @@ pub fn opening(header: &[u8], text: &[u8]) -> Refusal
         return Refusal {
             number: HEADER,
             line: 1,
+            field: 0,
         };
     }
-    Refusal { number: 0, line: 0 }
+    Refusal {
+        number: 0,
+        line: 0,
+        field: 0,
+    }
 }

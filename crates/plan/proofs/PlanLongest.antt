@@ -114,4 +114,4 @@ plan-small text old new r c = go (eqb (readProtocol text .refusal .number) 0) re
         small-listed (p .listing) old new r (omega (arith, plan-length text (p .listing) z (p .allowed))) (p .listed)
     go false e =
         let low = protocol-low text in
-        small-refused (readProtocol text .refusal) 0 r (low .0) (omega arith) (low .1) (c .refused (eqb-false (readProtocol text .refusal .number) 0 e) .answer)
+        small-refused (readProtocol text .refusal) 0 r (low .0) (omega arith) (low .1) (omega (arith, low .2)) (c .refused (eqb-false (readProtocol text .refusal .number) 0 e) .answer)

@@ -7,7 +7,6 @@ use lib.ListN.{length, drop}
 use Rattle.text.specs.Parts.{place, lines}
 use Rattle.text.specs.Words.{protocolHeader}
 use Rattle.papers.specs.declared.Refusal.{Refusal}
-use Rattle.papers.specs.Checks.{refusal}
 use Rattle.papers.specs.Opening.{openingOf}
 use Rattle.papers.proofs.OpeningLaws.{opened}
 use Rattle.tables.specs.declared.Tables.{Tables}
@@ -33,7 +32,7 @@ module _ (text : List ℕ) where
   abbrev pub body : Reading
   body = readLines 2 (drop 1 (lines text)) clearedTables
 
-  pub not-opened : (r : Refusal) → r ≡ openingOf protocolHeader text → (r .number ≡ 0 → ⊥) → readProtocol text ≡ refused (refusal (r .number) (r .line))
+  pub not-opened : (r : Refusal) → r ≡ openingOf protocolHeader text → (r .number ≡ 0 → ⊥) → readProtocol text ≡ refused r
   unfolding readProtocol
   not-opened r e g = ap (λ (x : Refusal). unless x body) (sym e) ∙ unless-refused r body g
 

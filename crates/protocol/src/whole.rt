@@ -32,6 +32,7 @@ pub(crate) fn finished(t: Tables) -> Reading
         return refused_at(Refusal {
             number: papers::NO_MESSAGE,
             line: 0,
+            field: 0,
         });
     }
     let i = table_rows::entries::no_entry(t);
@@ -40,10 +41,15 @@ pub(crate) fn finished(t: Tables) -> Reading
         return refused_at(Refusal {
             number: papers::NO_ENTRY,
             line: line,
+            field: 0,
         });
     }
     Reading {
-        refusal: Refusal { number: 0, line: 0 },
+        refusal: Refusal {
+            number: 0,
+            line: 0,
+            field: 0,
+        },
         tables: t,
     }
 }

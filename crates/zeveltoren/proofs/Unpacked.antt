@@ -27,7 +27,7 @@ check-told text r a e f = f ∙ ap (λ (x : Reading). refusedAt (x .refusal) 0) 
 pub check-small : (text : List ℕ) → Small (checked text)
 check-small text =
     let low = protocol-low text in
-    small-refused (readProtocol text .refusal) 0 (checked text) (low .0) (omega arith) (low .1) refl
+    small-refused (readProtocol text .refusal) 0 (checked text) (low .0) (omega arith) (low .1) (omega (arith, low .2)) refl
 
 pub every-check : EveryCheck
 every-check text k e = subst (λ (j : ℕ). Unpacked j (checked text)) (sym e) (unpack (checked text) (check-small text))

@@ -10,6 +10,9 @@ cast-number c = search needs
 cast-paper : tie.Need-cast-paper
 cast-paper c = search needs
 
+cast-field : tie.Need-cast-field
+cast-field c = search needs
+
 shown-length-requires : tie.Need-shown-length-requires
 shown-length-requires c κs = search needs
 
@@ -31,6 +34,12 @@ mul-result-3 c = search needs
 add-result-3 : tie.Need-add-result-3
 add-result-3 c = search needs
 
+mul-result-4 : tie.Need-mul-result-4
+mul-result-4 c = search needs
+
+add-result-4 : tie.Need-add-result-4
+add-result-4 c = search needs
+
 returns : tie.Need-returns
 unfolding packedAnswer
 returns c = search needs
@@ -41,6 +50,7 @@ packed-spec =
     (tie.spec
     cast-number
     cast-paper
+    cast-field
     shown-length-requires
     mul-result
     add-result
@@ -48,4 +58,6 @@ packed-spec =
     add-result-2
     mul-result-3
     add-result-3
+    mul-result-4
+    add-result-4
     returns)

@@ -19,26 +19,32 @@ use Rattle.tables.specs.Given.{Declared}
 use Rattle.tables.specs.names.Names.{stateAt, isState}
 use Rattle.text.specs.Line.{Line, field}
 use Rattle.lines.specs.Line.{cell, cellController, sentFields, sentOf, cellOf, sentFrom}
-use Rattle.lines.specs.Checks.{allMessages, knownCell, isStable, inStable, stallInStable}
+use Rattle.lines.specs.Checks.{allMessages, knownCell, goNames, unknownField, isStable, inStable, stallInStable}
+use Rattle.papers.specs.Fields.{firstBad}
 use Rattle.cells.specs.shapes.Shape.{StallLine}
 use Rattle.cells.specs.declared.places.Place.{Place}
 use Rattle.cells.specs.places.Place.{PlaceTold}
 use Rattle.cells.proofs.targets.Sending.{noMessages}
 use Rattle.cells.specs.readings.Known.{CellRead}
-use Rattle.cells.proofs.readings.Whole.{same-cell, parted, own}
+use Rattle.cells.proofs.readings.Whole.{same-cell, parted, behind, own}
 
 module _ (f : Line) (whose : Controller)
     (messages : List MessageRow) (message-count : ℕ) (events : List EventRow) (event-count : ℕ) (states : List StateRow) (state-count : ℕ)
     (p : Place) (at : PlaceTold f whose messages message-count events event-count states state-count p) where
   pub stalling : (b : Bool) → StallLine f whose → p .known ≡ true → b ≡ isStable (getD (take state-count states) (p .state .0) noState .stability)
-      → CellRead f messages message-count events event-count states state-count (record { known = true; stuck = b; cell = record { state = p .state; trigger = p .trigger; outcome = Stall; sent = noMessages; «sent_count» = 0 } })
-  unfolding inStable cellOf sentOf
-  stalling b s k e = record { known = know; stuck = stick; cell = is-cell; cleared = λ q. absurd (true≢false q) }
+      → CellRead f messages message-count events event-count states state-count (record { known = true; field = 0; stuck = b; cell = record { state = p .state; trigger = p .trigger; outcome = Stall; sent = noMessages; «sent_count» = 0 } })
+  unfolding inStable cellOf sentOf firstBad
+  stalling b s k e = record { known = know; first-bad = good; stuck = stick; cell = is-cell; cleared = λ q. absurd (true≢false q) }
     where
       know : (t : Tables) → Declared t messages message-count events event-count states state-count → true ≡ knownCell t f
       know t d =
           sym (parted f whose messages message-count events event-count states state-count p at t d (s .is)
           ∙ ap₂ (λ (a c : Bool). a && (c || (isState t (cellController f) (field f 5) && allMessages t (sentFields f)))) k (s .word))
+
+      good : (t : Tables) → Declared t messages message-count events event-count states state-count → 0 ≡ unknownField cell t f
+      good t d =
+          sym (behind f whose messages message-count events event-count states state-count p at t d (s .is) k
+          ∙ ap (λ (a : Bool). firstBad (cond a [] (goNames t (cellController f) f))) (s .word))
 
       stick : (t : Tables) → Declared t messages message-count events event-count states state-count → true ≡ true → b ≡ stallInStable cell t f
       stick t d q =

@@ -19,6 +19,7 @@ use Rattle.lines.specs.Checks.{allMessages}
 use Rattle.cells.specs.declared.targets.Sent.{Sent}
 use Rattle.tables.specs.Given.{MessagesAre}
 use Rattle.cells.specs.targets.Target.{SentTold}
+use Rattle.cells.proofs.Unknown.{first-sent, all-sent}
 use Rattle.cells.proofs.places.Named.{message-known, message-unknown}
 
 abbrev pub noMessages : List Message
@@ -83,10 +84,11 @@ module _ (messages : List MessageRow) (message-count : ℕ) where
               ∙ sym (append-assoc ys (g (getD xs j []) ∷ []) left)
               ∙ ap (λ (l : List Message). l ++ left) (sym (map-append g (take j xs) (getD xs j [] ∷ [])) ∙ ap (map g) (sym next))
 
-      pub sending-stops : (v : Sent) → v .known ≡ false → r ≡ NoMessage → SentTold xs messages message-count v
-      sending-stops v k q =
+      pub sending-stops : (v : Sent) → v .known ≡ false → v .field ≡ 7 + j → r ≡ NoMessage → SentTold xs messages message-count v
+      sending-stops v k p q =
           record {
             known = λ t a. k ∙ sym (one-not t xs j h (message-unknown t messages message-count a (getD xs j []) r e q));
+            first-bad = λ t a. p ∙ sym (first-sent t 7 xs j h (s .known t a) (message-unknown t messages message-count a (getD xs j []) r e q));
             sent = λ t a b. absurd (differ b);
             count = λ b. absurd (differ b);
           }
@@ -94,10 +96,11 @@ module _ (messages : List MessageRow) (message-count : ℕ) where
           differ : v .known ≡ true → ⊥
           differ b = let z : _≡_ {A = ℕ} 0 1 = cc in omega arith
 
-    pub sending-all : (v : Sent) → j ≡ length xs → v .known ≡ true → v .sent ≡ sent → v .count ≡ length xs → SentTold xs messages message-count v
-    sending-all v h k w n =
+    pub sending-all : (v : Sent) → j ≡ length xs → v .known ≡ true → v .field ≡ 0 → v .sent ≡ sent → v .count ≡ length xs → SentTold xs messages message-count v
+    sending-all v h k z w n =
         record {
           known = λ t a. k ∙ sym (ap (allMessages t) (sym all) ∙ s .known t a);
+          first-bad = λ t a. z ∙ sym (all-sent t 7 xs (ap (allMessages t) (sym all) ∙ s .known t a));
           sent = λ t a b. w ∙ s .sent t a ∙ ap₂ (λ (l : List (List ℕ)) (i : ℕ). map (messageNo t) l ++ replicate (8 - i) (record { 0 = 0 })) all h;
           count = λ b. n;
         }

@@ -14,8 +14,9 @@ use Rattle.tables.specs.declared.Tables.{Tables}
 use Rattle.tables.specs.Given.{MessagesAre, EventsAre, Declared}
 use Rattle.tables.specs.names.Names.{stateAt, isState}
 use Rattle.text.specs.Line.{Line, field}
+use Rattle.papers.specs.Fields.{firstBad}
 use Rattle.lines.specs.Line.{triggerOf}
-use Rattle.lines.specs.Checks.{isTrigger}
+use Rattle.lines.specs.Checks.{isTrigger, placeNames}
 use Rattle.cells.specs.declared.places.FoundTrigger.{FoundTrigger}
 use Rattle.cells.specs.declared.places.FoundTrigger.the-variants.{At, Nothing}
 use Rattle.cells.specs.declared.places.Place.{Place}
@@ -32,9 +33,9 @@ pub record TriggerTold
     : Type 0 where
   pub told : (t : Tables) → MessagesAre t messages message-count → EventsAre t events event-count → r ≡ foundTrigger (isTrigger t whose x) (triggerOf t x)
 
--- The answer where the state or the trigger is not known.
-abbrev pub noPlace : Place
-noPlace = record { known = false; state = record { 0 = 0 }; trigger = OnMessage (record { 0 = 0 }) }
+-- The answer where the state or the trigger is not known, and which field that is.
+abbrev pub noPlace : ℕ → Place
+noPlace k = record { known = false; field = k; state = record { 0 = 0 }; trigger = OnMessage (record { 0 = 0 }) }
 
 pub record PlaceTold
     (f : Line) (whose : Controller)
@@ -48,4 +49,5 @@ pub record PlaceTold
   pub trigger : (t : Tables) → Declared t messages message-count events event-count states state-count → r .known ≡ true
       → r .trigger ≡ triggerOf t (field f 3)
   pub below : r .known ≡ true → r .state .0 < state-count
-  pub cleared : r .known ≡ false → r ≡ noPlace
+  pub first-bad : (t : Tables) → Declared t messages message-count events event-count states state-count → r .field ≡ firstBad (placeNames t whose f)
+  pub cleared : r .known ≡ false → r ≡ noPlace (r .field)

@@ -1,4 +1,4 @@
--- Lines that declare a name: their number from what is tested, and that it leaves one row.
+-- Lines that declare a name: why they are refused from what is tested, and that it leaves one row.
 use Prim.Native.Nat.{ℕ}
 use mathlib.Core.Path.{_≡_, refl, sym, ap, ap₂, _∙_}
 use mathlib.Core.Bool.{Bool, true, false, not, cond}
@@ -13,43 +13,43 @@ use Rattle.tables.specs.declared.Tables.{Tables}
 use Rattle.tables.specs.Tables.{noCell}
 use Rattle.text.specs.Line.{Line}
 use Rattle.lines.specs.Line.{Section}
-use Rattle.lines.specs.Checks.{shaped, laterRead, badName, twice, full}
-use Rattle.lines.proofs.Numbers.{eightOf}
+use Rattle.lines.specs.Checks.{shaped, shapeField, laterRead, badName, nameField, unknownField, twice, full}
+use Rattle.lines.proofs.Reasons.{Reason, reason, noReason, eightOf}
 
 -- ---- the four tests of such a line
 
--- It is shaped, its name keeps the rule, the name is declared, there is no room.
-unfoldable pub fourOf : Bool → Bool → Bool → Bool → ℕ
-fourOf shape name declared full = cond (not shape) 4 (cond (not name) 6 (cond declared 8 (cond full 9 0)))
+-- It is shaped, its name keeps the rule, the name is declared, there is no room. The fields are that of a wrong word and that of the name.
+unfoldable pub fourOf : ℕ → ℕ → Bool → Bool → Bool → Bool → Reason
+fourOf word named shape name declared full = cond (not shape) (reason 4 word) (cond (not name) (reason 6 named) (cond declared (reason 8 named) (cond full (reason 9 0) noReason)))
 
-module _ (a b c d : Bool) where
-  pub four-shape : a ≡ false → 4 ≡ fourOf a b c d
+module _ (u v : ℕ) (a b c d : Bool) where
+  pub four-shape : a ≡ false → reason 4 u ≡ fourOf u v a b c d
   unfolding fourOf
-  four-shape p = sym (ap (λ (x : Bool). fourOf x b c d) p)
+  four-shape p = sym (ap (λ (x : Bool). fourOf u v x b c d) p)
 
-  pub four-name : a ≡ true → b ≡ false → 6 ≡ fourOf a b c d
+  pub four-name : a ≡ true → b ≡ false → reason 6 v ≡ fourOf u v a b c d
   unfolding fourOf
-  four-name p q = sym (ap₂ (λ (x y : Bool). fourOf x y c d) p q)
+  four-name p q = sym (ap₂ (λ (x y : Bool). fourOf u v x y c d) p q)
 
-  pub four-twice : a ≡ true → b ≡ true → c ≡ true → 8 ≡ fourOf a b c d
+  pub four-twice : a ≡ true → b ≡ true → c ≡ true → reason 8 v ≡ fourOf u v a b c d
   unfolding fourOf
-  four-twice p q r = sym (ap₂ (λ (x y : Bool). fourOf x y c d) p q ∙ ap (λ (z : Bool). fourOf true true z d) r)
+  four-twice p q r = sym (ap₂ (λ (x y : Bool). fourOf u v x y c d) p q ∙ ap (λ (z : Bool). fourOf u v true true z d) r)
 
-  pub four-full : a ≡ true → b ≡ true → c ≡ false → d ≡ true → 9 ≡ fourOf a b c d
+  pub four-full : a ≡ true → b ≡ true → c ≡ false → d ≡ true → reason 9 0 ≡ fourOf u v a b c d
   unfolding fourOf
-  four-full p q r s = sym (ap₂ (λ (x y : Bool). fourOf x y c d) p q ∙ ap₂ (λ (z w : Bool). fourOf true true z w) r s)
+  four-full p q r s = sym (ap₂ (λ (x y : Bool). fourOf u v x y c d) p q ∙ ap₂ (λ (z w : Bool). fourOf u v true true z w) r s)
 
-  pub four-none : a ≡ true → b ≡ true → c ≡ false → d ≡ false → 0 ≡ fourOf a b c d
+  pub four-none : a ≡ true → b ≡ true → c ≡ false → d ≡ false → noReason ≡ fourOf u v a b c d
   unfolding fourOf
-  four-none p q r s = sym (ap₂ (λ (x y : Bool). fourOf x y c d) p q ∙ ap₂ (λ (z w : Bool). fourOf true true z w) r s)
+  four-none p q r s = sym (ap₂ (λ (x y : Bool). fourOf u v x y c d) p q ∙ ap₂ (λ (z w : Bool). fourOf u v true true z w) r s)
 
 -- Of a line that declares a name only these checks can be given.
 pub declares : (s : Section) (t : Tables) (f : Line) (d e : Bool) → laterRead s t ≡ false → twice s t f ≡ d → full s t ≡ e
-    → eightOf (not (shaped s f)) (laterRead s t) (badName s f) false (twice s t f) (full s t) false false
-    ≡ cond (not (shaped s f)) 4 (cond (badName s f) 6 (cond d 8 (cond e 9 0)))
+    → eightOf (shapeField s f) (nameField s) (unknownField s t f) (nameField s) (not (shaped s f)) (laterRead s t) (badName s f) false (twice s t f) (full s t) false false
+    ≡ cond (not (shaped s f)) (reason 4 (shapeField s f)) (cond (badName s f) (reason 6 (nameField s)) (cond d (reason 8 (nameField s)) (cond e (reason 9 0) noReason)))
 declares s t f d e p q r =
-    ap (λ (x : Bool). eightOf (not (shaped s f)) x (badName s f) false (twice s t f) (full s t) false false) p
-    ∙ ap₂ (λ (x y : Bool). cond (not (shaped s f)) 4 (cond (badName s f) 6 (cond x 8 (cond y 9 0)))) q r
+    ap (λ (x : Bool). eightOf (shapeField s f) (nameField s) (unknownField s t f) (nameField s) (not (shaped s f)) x (badName s f) false (twice s t f) (full s t) false false) p
+    ∙ ap₂ (λ (x y : Bool). cond (not (shaped s f)) (reason 4 (shapeField s f)) (cond (badName s f) (reason 6 (nameField s)) (cond x (reason 8 (nameField s)) (cond y (reason 9 0) noReason)))) q r
 
 -- ---- one row
 

@@ -31,7 +31,7 @@ use Rattle.judge.proofs.JudgeLongest.{judge-length}
 -- A refusal of one of the papers: `why` is that of its reading.
 record Stopped (why : Refusal) (paper : ℕ) (old new : List ℕ) (r : Answer) : Type 0 where
   refusal : Refused why paper old new r
-  low : Low (why .number) (why .line)
+  low : Low why
   some : why .number ≢ 0
   paper-low : paper < 10
 
@@ -100,7 +100,7 @@ module _ (x y old new : List ℕ) (r : Answer) (room : 4096 ≤ length old) (c :
           arith,
           room,
           ap length (s .refusal .bytes),
-          refused-short (r .refusal) (r .paper) (omega (arith, ap (λ (w : Refusal). w .number) (parts .0), s .low .0)) (omega (arith, parts .1, s .paper-low)) (omega (arith, ap (λ (w : Refusal). w .line) (parts .0), s .low .1)),
+          refused-short (r .refusal) (r .paper) (omega (arith, ap (λ (w : Refusal). w .number) (parts .0), s .low .0)) (omega (arith, parts .1, s .paper-low)) (omega (arith, ap (λ (w : Refusal). w .line) (parts .0), s .low .1)) (omega (arith, ap (λ (w : Refusal). w .field) (parts .0), s .low .2)),
         )
 
     stopped-text : refusedText (r .refusal) (r .paper) ≡ refusedText why paper

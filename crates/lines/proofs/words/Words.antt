@@ -5,6 +5,7 @@ use mathlib.Core.Bool.{true, false}
 use mathlib.Core.List.{List}
 use Rattle.text.specs.Parts.{sameText}
 use Rattle.text.specs.Words.{reqWord, fwdWord, dataWord, ctlWord, cacheWord, dirWord, stableWord, transientWord}
+use Rattle.tables.specs.declared.Kind.{Kind}
 use Rattle.tables.specs.declared.Kind.the-variants.{Req, Fwd, Data, Ctl}
 use Rattle.lines.specs.declared.words.FoundKind.the-variants.{Is as IsKind, Nothing as NoKind}
 use Rattle.lines.specs.words.Found.{foundKind, foundController, foundStability}
@@ -13,7 +14,7 @@ use Rattle.tables.specs.declared.Controller.{Controller}
 use Rattle.tables.specs.declared.Controller.the-variants.{Cache, Dir}
 use Rattle.tables.specs.declared.Stability.{Stability}
 use Rattle.tables.specs.declared.Stability.the-variants.{Stable, Transient}
-use Rattle.lines.specs.Line.{isController, controllerOf, isStability, stabilityOf}
+use Rattle.lines.specs.Line.{isKind, kindOf, isController, controllerOf, isStability, stabilityOf}
 use Rattle.text.proofs.Found.{found-is, found-nothing}
 use Rattle.lines.specs.declared.words.FoundController.the-variants.{Is as IsController, Nothing as NoController}
 use Rattle.lines.specs.declared.words.FoundStability.the-variants.{Is as IsStability, Nothing as NoStability}
@@ -69,6 +70,14 @@ module _ (x : List ℕ) where
 -- ---- what was found tells what the field is
 
 module _ (x : List ℕ) where
+  pub kind-is : (k : Kind) → IsKind k ≡ foundKind x → (isKind x ≡ true) × (k ≡ kindOf x)
+  unfolding foundKind
+  kind-is k e = found-is IsKind NoKind (λ a b q. cc) (λ a q. let z : _≡_ {A = ℕ} 0 1 = cc in omega arith) (isKind x) (kindOf x) k e
+
+  pub kind-nothing : NoKind ≡ foundKind x → isKind x ≡ false
+  unfolding foundKind
+  kind-nothing e = found-nothing IsKind NoKind (λ a b q. cc) (λ a q. let z : _≡_ {A = ℕ} 0 1 = cc in omega arith) (isKind x) (kindOf x) e
+
   pub controller-is : (k : Controller) → IsController k ≡ foundController x → (isController x ≡ true) × (k ≡ controllerOf x)
   unfolding foundController
   controller-is k e = found-is IsController NoController (λ a b q. cc) (λ a q. let z : _≡_ {A = ℕ} 0 1 = cc in omega arith) (isController x) (controllerOf x) k e

@@ -1,6 +1,6 @@
 -- Laws of a mapping's line: its shape, and the first of its checks.
 use mathlib.Core.Path.{_≡_, refl, sym, ap, _∙_}
-use mathlib.Core.Bool.{Bool, true, false, not, _&&_}
+use mathlib.Core.Bool.{Bool, true, false, not, _&&_, cond, and-false}
 use mathlib.Core.List.{List, [], _∷_}
 use Prim.Native.Nat.{ℕ, _<_, _≤_}
 use native.Mathlib.Omega.{arith}
@@ -14,26 +14,62 @@ use Rattle.text.specs.Name.{nameText}
 use Rattle.text.specs.Words.{mapWord}
 use Rattle.text.specs.Fields.{fieldsOf}
 use Rattle.text.specs.declared.Fields.{Fields}
-use Rattle.text.proofs.FieldLaws.{FieldAt}
+use Rattle.text.proofs.FieldLaws.{FieldAt, count-some}
 use Rattle.papers.specs.declared.Refusal.{Refusal}
-use Rattle.papers.specs.Checks.{Check, check, refusal, none, firstOf}
+use Rattle.papers.specs.Checks.{Check, check, fieldCheck, refusal, fieldRefusal, none, firstOf}
+use Rattle.papers.specs.Fields.{looked, firstBad}
 use Rattle.papers.proofs.Checks.{first-given, first-passed}
-use Rattle.papers.proofs.WholeLine.{whole-count, count-whole, told-field}
+use Rattle.papers.proofs.Fields.{bad-first, good-first}
+use Rattle.papers.proofs.WholeLine.{whole-count, told-field}
 use Rattle.tables.specs.declared.MessageRow.{MessageRow}
 use Rattle.mapping.specs.declared.lines.MapLine.{MapLine}
+use Rattle.mapping.specs.declared.lines.MapShape.{MapShape}
+use Rattle.mapping.specs.declared.lines.MapShape.the-variants.{Is as IsMap, Wrong as WrongMap}
 use Rattle.mapping.specs.networks.Networks.{networkOf, isNetwork}
-use Rattle.mapping.specs.lines.Line.{mapShaped, mapsFull, matches, mapRefusal, MapTold}
+use Rattle.mapping.specs.lines.Line.{mapShaped, mapShapeField, mapShape, mapsFull, matches, matchField, mapRefusal, MapTold}
 
 -- ---- the shape
 
-module _ (l : List ℕ) where
-  pub shape-other : (fieldsOf l 0 (length l) .count ≡ 3 → ⊥) → mapShaped (split 9 l) ≡ false
-  shape-other h =
-      ap (λ (t : Bool). t && says (split 9 l) 0 mapWord) (ne-eqb (length (split 9 l)) 3 (λ q. h (whole-count l 3 (omega arith) q)))
+module _ (f : Line) where
+  abbrev shapeBy : Bool → MapShape
+  shapeBy t = cond t IsMap (WrongMap (mapShapeField f))
 
-  pub shape-word : fieldsOf l 0 (length l) .count ≡ 3 → says (split 9 l) 0 mapWord ≡ mapShaped (split 9 l)
-  shape-word h =
-      sym (ap (λ (t : Bool). t && says (split 9 l) 0 mapWord) (eq-eqb (length (split 9 l)) 3 (count-whole l 3 (omega arith) h)))
+  wrong-by : (n : ℕ) → mapShaped f ≡ false → mapShapeField f ≡ n → WrongMap n ≡ mapShape f
+  unfolding mapShape
+  wrong-by n e q = ap WrongMap (sym q) ∙ sym (ap shapeBy e)
+
+  -- the word is another
+  pub shape-word : says f 0 mapWord ≡ false → WrongMap 1 ≡ mapShape f
+  shape-word e =
+      wrong-by 1 (ap (λ (t : Bool). eqb (length f) 3 && t) e ∙ and-false (eqb (length f) 3)) (bad-first (looked 1 (not (says f 0 mapWord))) [] (ap not e))
+
+  module _ (w : says f 0 mapWord ≡ true) where
+    -- only the number of fields is another
+    pub shape-length : (length f ≡ 3 → ⊥) → WrongMap 0 ≡ mapShape f
+    unfolding firstBad
+    shape-length h =
+        wrong-by 0 (ap (λ (t : Bool). t && says f 0 mapWord) (ne-eqb (length f) 3 h)) (good-first (looked 1 (not (says f 0 mapWord))) [] (ap not w))
+
+    pub shape-is : length f ≡ 3 → IsMap ≡ mapShape f
+    unfolding mapShape
+    shape-is h = sym (ap shapeBy (ap (λ (t : Bool). t && says f 0 mapWord) (eq-eqb (length f) 3 h) ∙ w))
+
+  -- from what was told
+  pub is-shaped : IsMap ≡ mapShape f → mapShaped f ≡ true
+  unfolding mapShape
+  is-shaped e = go (mapShaped f) refl
+    where
+      go : (t : Bool) → mapShaped f ≡ t → mapShaped f ≡ true
+      go true q = q
+      go false q = absurd (let z : IsMap ≡ WrongMap (mapShapeField f) = e ∙ ap shapeBy q in let k : _≡_ {A = ℕ} 0 1 = cc in omega arith)
+
+  pub wrong-shaped : (n : ℕ) → WrongMap n ≡ mapShape f → (mapShaped f ≡ false) × (mapShapeField f ≡ n)
+  unfolding mapShape
+  wrong-shaped n e = go (mapShaped f) refl
+    where
+      go : (t : Bool) → mapShaped f ≡ t → (mapShaped f ≡ false) × (mapShapeField f ≡ n)
+      go true q = absurd (let z : WrongMap n ≡ IsMap = e ∙ ap shapeBy q in let k : _≡_ {A = ℕ} 0 1 = cc in omega arith)
+      go false q = (q, let z : WrongMap n ≡ WrongMap (mapShapeField f) = e ∙ ap shapeBy q in cc)
 
 shaped-three : (f : Line) → mapShaped f ≡ true → length f ≡ 3
 shaped-three f e = go (eqb (length f) 3) refl
@@ -45,7 +81,12 @@ shaped-three f e = go (eqb (length f) 3) refl
 shape-count : (l : List ℕ) → mapShaped (split 9 l) ≡ true → fieldsOf l 0 (length l) .count ≡ 3
 shape-count l h = whole-count l 3 (omega arith) (shaped-three (split 9 l) h)
 
--- where its fields stand
+-- where the first field stands, which every line has
+pub first-field : (l : List ℕ) (r : Fields) → r ≡ fieldsOf l 0 (length l)
+    → FieldAt l 0 (length l) (getD (r .from) 0 0) (getD (r .to) 0 0) (field (split 9 l) 0)
+first-field l r e = told-field l r 0 e (omega (arith, ap (λ (s : Fields). s .count) e, count-some l 0 (length l)))
+
+-- where the fields of a shaped line stand
 pub map-field : (l : List ℕ) (r : Fields) (i : ℕ) → mapShaped (split 9 l) ≡ true → r ≡ fieldsOf l 0 (length l) → i < 3
     → FieldAt l 0 (length l) (getD (r .from) i 0) (getD (r .to) i 0) (field (split 9 l) i)
 map-field l r i h e k = told-field l r i e (omega (arith, ap (λ (s : Fields). s .count) e, shape-count l h))
@@ -54,18 +95,18 @@ map-field l r i h e k = told-field l r i e (omega (arith, ap (λ (s : Fields). s
 
 module _ (most before k : ℕ) (f : Line) where
   abbrev shape : Check
-  shape = check 4 k (not (mapShaped f))
+  shape = fieldCheck 4 k (mapShapeField f) (not (mapShaped f))
 
   abbrev full : Check
   full = check 9 k (mapsFull most before)
 
   abbrev match : List MessageRow → Check
-  match next = check 14 k (not (matches next (field f 1)))
+  match next = fieldCheck 14 k (matchField next) (not (matches next (field f 1)))
 
   abbrev network : Check
-  network = check 15 k (not (isNetwork most (field f 2)))
+  network = fieldCheck 15 k 3 (not (isNetwork most (field f 2)))
 
-  pub line-shape : (next : List MessageRow) → mapShaped f ≡ false → mapRefusal most before next k f ≡ refusal 4 k
+  pub line-shape : (next : List MessageRow) → mapShaped f ≡ false → mapRefusal most before next k f ≡ fieldRefusal 4 k (mapShapeField f)
   unfolding mapRefusal
   line-shape next e = first-given shape (full ∷ match next ∷ network ∷ []) (ap not e)
 
@@ -84,11 +125,11 @@ module _ (most before k : ℕ) (f : Line) where
       line-many = after-full [] ∙ first-given (match []) (network ∷ []) refl
 
       module _ (m : MessageRow) where
-        pub line-unmatched : sameText (nameText (m .name)) (field f 1) ≡ false → mapRefusal most before (m ∷ []) k f ≡ refusal 14 k
+        pub line-unmatched : sameText (nameText (m .name)) (field f 1) ≡ false → mapRefusal most before (m ∷ []) k f ≡ fieldRefusal 14 k 2
         line-unmatched q = after-full (m ∷ []) ∙ first-given (match (m ∷ [])) (network ∷ []) (ap not q)
 
         module _ (q : sameText (nameText (m .name)) (field f 1) ≡ true) where
-          pub line-no-network : isNetwork most (field f 2) ≡ false → mapRefusal most before (m ∷ []) k f ≡ refusal 15 k
+          pub line-no-network : isNetwork most (field f 2) ≡ false → mapRefusal most before (m ∷ []) k f ≡ fieldRefusal 15 k 3
           line-no-network e =
               after-full (m ∷ []) ∙ first-passed (match (m ∷ [])) (network ∷ []) (ap not q)
               ∙ first-given network [] (ap not e)
@@ -108,8 +149,9 @@ module _ (most before k : ℕ) (f : Line) where
 
 module _ (most k : ℕ) (m : MessageRow) (f : Line) (r : MapLine) where
   -- it is refused
-  pub gives-none : (n : ℕ) → (n ≡ 0 → ⊥) → ((before : ℕ) → before < most → mapRefusal most before (m ∷ []) k f ≡ refusal n k) → r .refusal ≡ refusal n k → MapTold most k m f r
-  gives-none n h e q = record { told = λ before room. q ∙ sym (e before room); network = λ z. absurd (h (sym (ap (λ (x : Refusal). x .number) q) ∙ z)) }
+  pub gives-none : (n i : ℕ) → (n ≡ 0 → ⊥) → ((before : ℕ) → before < most → mapRefusal most before (m ∷ []) k f ≡ fieldRefusal n k i) → r .refusal ≡ fieldRefusal n k i
+      → MapTold most k m f r
+  gives-none n i h e q = record { told = λ before room. q ∙ sym (e before room); network = λ z. absurd (h (sym (ap (λ (x : Refusal). x .number) q) ∙ z)) }
 
   -- it gives its network
   pub gives-network : ((before : ℕ) → before < most → mapRefusal most before (m ∷ []) k f ≡ none) → r .refusal ≡ none → r .network ≡ asNetwork (networkOf most (field f 2)) → MapTold most k m f r

@@ -61,7 +61,7 @@ module _ (text old new : List ℕ) (r : Answer) (room : 4096 ≤ length old) (c 
           arith,
           room,
           ap length (refusal .bytes),
-          refused-short (r .refusal) (r .paper) (omega (arith, ap (λ (w : Refusal). w .number) (parts .0), protocol-low text .0)) (omega (arith, parts .1)) (omega (arith, ap (λ (w : Refusal). w .line) (parts .0), protocol-low text .1)),
+          refused-short (r .refusal) (r .paper) (omega (arith, ap (λ (w : Refusal). w .number) (parts .0), protocol-low text .0)) (omega (arith, parts .1)) (omega (arith, ap (λ (w : Refusal). w .line) (parts .0), protocol-low text .1)) (omega (arith, ap (λ (w : Refusal). w .field) (parts .0), protocol-low text .2)),
         )
 
     pub print-refusal : (new₂ : List ℕ) (n : ℕ) → Wrote (refusedText (r .refusal) (r .paper)) new new₂ n → PlanPrinted text old new₂ n

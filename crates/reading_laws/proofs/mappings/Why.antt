@@ -1,9 +1,9 @@
 -- Each refusal is given only under its row, and what is accepted are networks.
 use mathlib.Core.Path.{_≡_, refl, sym, ap, ap₂, _∙_, subst}
-use mathlib.Core.Bool.{Bool, true, false, not}
+use mathlib.Core.Bool.{Bool, true, false, not, cond}
 use mathlib.Core.List.{List, [], _∷_, _++_, append-assoc, append-nil}
 use mathlib.Core.Logic.{_⊎_, inl, inr, ⊎-elim}
-use Prim.Native.Nat.{ℕ, zero, suc, _+_, _<_}
+use Prim.Native.Nat.{ℕ, zero, suc, _+_, _≤_, _<_}
 use native.Mathlib.Omega.{arith}
 use native.Mathlib.Nat.{add-zero}
 use lib.ListN.{length, getD, drop, replicate, length-append}
@@ -11,20 +11,24 @@ use lib.Seq.{drop-drop}
 use lib.Dec.{eqb}
 use borrow.Author.Tests.{eqb-true, eqb-false, not-false, ltb-true}
 use Rattle.text.specs.Parts.{split, lines}
+use Rattle.text.specs.Words.{mapWord}
 use Rattle.papers.specs.declared.Refusal.{Refusal}
-use Rattle.papers.specs.Checks.{Check, check, refusal, firstOf}
+use Rattle.papers.specs.Checks.{Check, check, fieldCheck, refusal, firstOf}
+use Rattle.papers.specs.Fields.{firstBad}
 use Rattle.papers.specs.Opening.{openingChecks, openingOf, Opens}
-use Rattle.papers.proofs.Checks.{only-given, passed-by, numbered}
+use Rattle.papers.proofs.Checks.{first-given, first-passed, only-given, passed-by, numbered}
 use Rattle.papers.proofs.OpeningLaws.{opening-rows}
 use Rattle.tables.specs.declared.MessageRow.{MessageRow}
 use Rattle.tables.proofs.AllCells.{getD-zeros}
 use Rattle.mapping.specs.declared.Mapped.{Mapped}
-use Rattle.text.specs.Line.{field}
-use Rattle.mapping.specs.lines.Line.{mapShaped, mapsFull, matches, mapChecks, mapRefusal}
+use Rattle.text.specs.Line.{field, says}
+use Rattle.lines.proofs.Both.{and-left}
+use Rattle.lines.proofs.FieldTold.{first-fields}
+use Rattle.mapping.specs.lines.Line.{mapShaped, mapShapeField, mapsFull, matches, matchField, mapChecks, mapRefusal}
 use Rattle.mapping.specs.networks.Networks.{networkOf, isNetwork}
 use Rattle.mapping.specs.Headers.{headerOf}
 use Rattle.mapping.specs.Reading.{mapsAccepted, mapsRefused, readMaps, readMapping}
-use Rattle.reading_laws.specs.mappings.Why.{MapsPassed, BadMap, MapsEndEarly, MapsAccepted, BadMapOpening, MapsAnswered, MappingAnswered, MappingAccepted, BadTold}
+use Rattle.reading_laws.specs.mappings.Why.{MapsPassed, BadMap, MapsEndEarly, MapsAccepted, BadMapOpening, MapsAnswered, MappingAnswered, MappingAccepted, BadTold, MapFieldWithin}
 use Rattle.mapping.proofs.ReadLaws.{maps-more, maps-stop, reading-refused, reading-opened}
 
 -- ---- a line that gives no refusal
@@ -34,14 +38,14 @@ module _ (most before : ℕ) (next : List MessageRow) (k : ℕ) (f : List (List 
   full = check 9 k (mapsFull most before)
 
   abbrev match : Check
-  match = check 14 k (not (matches next (field f 1)))
+  match = fieldCheck 14 k (matchField next) (not (matches next (field f 1)))
 
   abbrev network : Check
-  network = check 15 k (not (isNetwork most (field f 2)))
+  network = fieldCheck 15 k 3 (not (isNetwork most (field f 2)))
 
   after-shape : (not (mapShaped f) ≡ false) × (firstOf (full ∷ match ∷ network ∷ []) .number ≡ 0)
   unfolding mapRefusal
-  after-shape = passed-by (check 4 k (not (mapShaped f))) (full ∷ match ∷ network ∷ []) (λ z. omega arith) e
+  after-shape = passed-by (fieldCheck 4 k (mapShapeField f) (not (mapShaped f))) (full ∷ match ∷ network ∷ []) (λ z. omega arith) e
 
   after-match : (not (matches next (field f 1)) ≡ false) × (firstOf (network ∷ []) .number ≡ 0)
   after-match = passed-by match (network ∷ []) (λ z. omega arith) (passed-by full (match ∷ network ∷ []) (λ z. omega arith) (after-shape .1) .1)
@@ -217,3 +221,29 @@ pub pad-at : (l : List ℕ) (n i : ℕ) → getD (l ++ replicate n 0) i 0 ≡ ge
 pad-at [] n i = getD-zeros n i
 pad-at (x ∷ l) n zero = refl
 pad-at (x ∷ l) n (suc i) = pad-at l n i
+
+-- ---- the field that is told
+
+pub map-field-within : MapFieldWithin
+unfolding mapRefusal firstBad
+map-field-within most above next k f h = go (mapShaped f) refl
+  where
+    first : Check
+    first = fieldCheck 4 k (mapShapeField f) (not (mapShaped f))
+
+    others : List Check
+    others = check 9 k (mapsFull most above) ∷ fieldCheck 14 k (matchField next) (not (matches next (field f 1))) ∷ fieldCheck 15 k 3 (not (isNetwork most (field f 2))) ∷ []
+
+    word : (b : Bool) → cond b 1 0 ≤ length f
+    word true = omega arith
+    word false = omega arith
+
+    turn : (l : List MessageRow) → length f ≡ 3 → matchField l ≤ length f
+    turn [] n = omega arith
+    turn (m ∷ l) n = omega arith
+
+    go : (b : Bool) → mapShaped f ≡ b → firstOf (mapChecks most above next k f) .field ≤ length f
+    go true e =
+        let n = eqb-true (length f) 3 (and-left (eqb (length f) 3) (says f 0 mapWord) e) in
+        subst (λ (r : Refusal). r .field ≤ length f) (sym (first-passed first others (ap not e))) (first-fields (length f) others (omega arith, (turn next n, (omega (arith, n), tt))))
+    go false e = subst (λ (r : Refusal). r .field ≤ length f) (sym (first-given first others (ap not e))) (word (not (says f 0 mapWord)))

@@ -161,10 +161,10 @@ kept-end text u = kept-after (linesOf text) clearedTables 2 kept-cleared u
 
 -- ---- the rows
 
--- a refusal that a row tells has that row's number and line
+-- a refusal that a row tells has that row's number, line and field
 module _ (text : List ℕ) where
   abbrev Told : Refusal → Type 0
-  Told r = Why text (r .number) (r .line)
+  Told r = Why text (r .number) (r .line) (r .field)
 
   why-opening : (i : ℕ) → i < 3 → row (openingChecks protocolHeader text) i .given ≡ true → Told (told (row (openingChecks protocolHeader text) i))
   why-opening zero h e = too-big e
@@ -192,8 +192,8 @@ module _ (text : List ℕ) where
   why-whole (suc (suc i)) u h e = absurd (omega arith)
 
   -- what is answered, for a refusal
-  answer-told : (r : Refusal) (a : Reading) → a ≡ refused r → Told r → Why text (a .refusal .number) (a .refusal .line)
-  answer-told r a e w = subst (λ (x : Reading). Why text (x .refusal .number) (x .refusal .line)) (sym e) w
+  answer-told : (r : Refusal) (a : Reading) → a ≡ refused r → Told r → Why text (a .refusal .number) (a .refusal .line) (a .refusal .field)
+  answer-told r a e w = subst (λ (x : Reading). Why text (x .refusal .number) (x .refusal .line) (x .refusal .field)) (sym e) w
 
 pub only-under-its-row : OnlyUnderItsRow
 only-under-its-row text z =
@@ -213,26 +213,26 @@ only-under-its-row text z =
     (answer text)
 
 -- of the rows only that of 13 has its number
-before-13 : (text : List ℕ) (n l : ℕ) → Why text n l → n ≡ 13 → readProtocol text .refusal .line ≡ l → RefusedAsBefore text
-before-13 text n l (too-big e) q r = absurd (omega (arith, q))
-before-13 text n l (no-end e) q r = absurd (omega (arith, q))
-before-13 text n l (header e) q r = absurd (omega (arith, q))
-before-13 text n l (shape i c e) q r = absurd (omega (arith, q))
-before-13 text n l (order i c e) q r = absurd (omega (arith, q))
-before-13 text n l (name i c e) q r = absurd (omega (arith, q))
-before-13 text n l (not-declared i c e) q r = absurd (omega (arith, q))
-before-13 text n l (declared-twice i c e) q r = absurd (omega (arith, q))
-before-13 text n l (too-many i c e) q r = absurd (omega (arith, q))
-before-13 text n l (stall-stable i c e) q r = absurd (omega (arith, q))
-before-13 text n l (clashes i c e) q r = absurd (omega (arith, q))
-before-13 text n l (no-message u e) q r = absurd (omega (arith, q))
-before-13 text n l (no-entry u i h f) q r =
+before-13 : (text : List ℕ) (n l m : ℕ) → Why text n l m → n ≡ 13 → readProtocol text .refusal .line ≡ l → RefusedAsBefore text
+before-13 text n l m (too-big e) q r = absurd (omega (arith, q))
+before-13 text n l m (no-end e) q r = absurd (omega (arith, q))
+before-13 text n l m (header e) q r = absurd (omega (arith, q))
+before-13 text n l m (shape i c e) q r = absurd (omega (arith, q))
+before-13 text n l m (order i c e) q r = absurd (omega (arith, q))
+before-13 text n l m (name i c e) q r = absurd (omega (arith, q))
+before-13 text n l m (not-declared i c e) q r = absurd (omega (arith, q))
+before-13 text n l m (declared-twice i c e) q r = absurd (omega (arith, q))
+before-13 text n l m (too-many i c e) q r = absurd (omega (arith, q))
+before-13 text n l m (stall-stable i c e) q r = absurd (omega (arith, q))
+before-13 text n l m (clashes i c e) q r = absurd (omega (arith, q))
+before-13 text n l m (no-message u e) q r = absurd (omega (arith, q))
+before-13 text n l m (no-entry u i h f) q r =
     let t = atEnd text in
     record { lines = u; cell = i; stored = h; told = r; directly = old-entries-remain (transientOf t) (cellsOf t) (cellAt t i) (f .found h) }
 
 pub old-texts-remain : OldTextsRemain
 old-texts-remain text z =
-    before-13 text (readProtocol text .refusal .number) (readProtocol text .refusal .line) (only-under-its-row text (λ e. absurd (omega (arith, e, z)))) z refl
+    before-13 text (readProtocol text .refusal .number) (readProtocol text .refusal .line) (readProtocol text .refusal .field) (only-under-its-row text (λ e. absurd (omega (arith, e, z)))) z refl
 
 pub refused-cleared : RefusedCleared
 refused-cleared text z =

@@ -1,5 +1,5 @@
 -- What an answer of the reader means: each refusal is given only under its row, and what is accepted are networks.
-use Prim.Native.Nat.{ℕ, _+_, _<_}
+use Prim.Native.Nat.{ℕ, _+_, _≤_, _<_}
 use mathlib.Core.Path.{_≡_}
 use mathlib.Core.Logic.{_⊎_}
 use mathlib.Core.List.{List, [], _++_}
@@ -10,7 +10,7 @@ use Rattle.papers.specs.Opening.{openingChecks, openingOf, Opens}
 use Rattle.tables.specs.declared.MessageRow.{MessageRow}
 use Rattle.mapping.specs.declared.Mapped.{Mapped}
 use Rattle.mapping.specs.networks.Networks.{networkOf}
-use Rattle.text.specs.Line.{field}
+use Rattle.text.specs.Line.{Line, field}
 use Rattle.mapping.specs.lines.Line.{mapChecks, mapRefusal}
 use Rattle.mapping.specs.Headers.{headerOf}
 use Rattle.mapping.specs.Reading.{mapsAccepted, mapsRefused, readMapping}
@@ -72,3 +72,7 @@ abbrev pub BadTold : Type 0
 BadTold = (most above : ℕ) (next : List MessageRow) (k : ℕ) (ls : List (List ℕ)) (r : Mapped) (w : BadMap most above next k ls r) →
     ToldBy (mapChecks most (above + w .place) (drop (w .place) next) (k + w .place) (split 9 (getD ls (w .place) [])))
     (mapRefusal most (above + w .place) (drop (w .place) next) (k + w .place) (split 9 (getD ls (w .place) [])))
+
+-- C-14: no field is told that the line has not.
+abbrev pub MapFieldWithin : Type 0
+MapFieldWithin = (most above : ℕ) (next : List MessageRow) (k : ℕ) (f : Line) → 0 < length f → mapRefusal most above next k f .field ≤ length f

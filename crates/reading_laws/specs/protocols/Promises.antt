@@ -18,7 +18,7 @@ use Rattle.tables.specs.Cells.{cellsOf, transientOf, relationsOfTables}
 use Rattle.tables.specs.Relations.{cellAt, FirstNoEntry}
 use Rattle.text.specs.Line.{Line}
 use Rattle.lines.specs.Line.{Section, sectionOf}
-use Rattle.lines.specs.Checks.{shaped, laterRead, badName, notKnown, twice, full, stallInStable, conflict, lineChecks, lineRefusal}
+use Rattle.lines.specs.Checks.{shaped, shapeField, laterRead, badName, nameField, notKnown, unknownField, twice, full, stallInStable, conflict, lineChecks, lineRefusal}
 use Rattle.protocol.specs.declared.whole.Reading.{Reading}
 use Rattle.protocol.specs.whole.Whole.{refused, accepted, cellLine, wholeChecks, wholeRefusal}
 use Rattle.protocol.specs.sections.Lines.{stored}
@@ -107,25 +107,25 @@ Unbroken text i = Unrefused clearedTables 2 (linesOf text) i
 abbrev pub Comes : List ℕ → ℕ → Type 0
 Comes text i = (i < length (linesOf text)) × Unbroken text i
 
--- Why a text is refused with this number at this line.
-pub data Why (text : List ℕ) : ℕ → ℕ → Type 0 where
-  too-big : tooBig text ≡ true → Why text 1 0
-  no-end : noEnd text ≡ true → Why text 2 (lastLine text)
-  header : wrongHeader protocolHeader text ≡ true → Why text 3 1
-  shape : (i : ℕ) → Comes text i → shaped (sectionOfLine text i) (lineOf text i) ≡ false → Why text 4 (2 + i)
-  order : (i : ℕ) → Comes text i → laterRead (sectionOfLine text i) (before text i) ≡ true → Why text 5 (2 + i)
-  name : (i : ℕ) → Comes text i → badName (sectionOfLine text i) (lineOf text i) ≡ true → Why text 6 (2 + i)
-  not-declared : (i : ℕ) → Comes text i → notKnown (sectionOfLine text i) (before text i) (lineOf text i) ≡ true → Why text 7 (2 + i)
-  declared-twice : (i : ℕ) → Comes text i → twice (sectionOfLine text i) (before text i) (lineOf text i) ≡ true → Why text 8 (2 + i)
-  too-many : (i : ℕ) → Comes text i → full (sectionOfLine text i) (before text i) ≡ true → Why text 9 (2 + i)
-  stall-stable : (i : ℕ) → Comes text i → stallInStable (sectionOfLine text i) (before text i) (lineOf text i) ≡ true → Why text 10 (2 + i)
-  clashes : (i : ℕ) → Comes text i → conflict (sectionOfLine text i) (before text i) (lineOf text i) ≡ true → Why text 11 (2 + i)
-  no-message : Unbroken text (length (linesOf text)) → atEnd text .«message_count» ≡ 0 → Why text 12 0
-  no-entry : Unbroken text (length (linesOf text)) → (i : ℕ) → i < atEnd text .«cell_count» → FirstNoEntry (atEnd text) i → Why text 13 (cellLine (atEnd text) i)
+-- Why a text is refused with this number, at this line, and with this field told.
+pub data Why (text : List ℕ) : ℕ → ℕ → ℕ → Type 0 where
+  too-big : tooBig text ≡ true → Why text 1 0 0
+  no-end : noEnd text ≡ true → Why text 2 (lastLine text) 0
+  header : wrongHeader protocolHeader text ≡ true → Why text 3 1 0
+  shape : (i : ℕ) → Comes text i → shaped (sectionOfLine text i) (lineOf text i) ≡ false → Why text 4 (2 + i) (shapeField (sectionOfLine text i) (lineOf text i))
+  order : (i : ℕ) → Comes text i → laterRead (sectionOfLine text i) (before text i) ≡ true → Why text 5 (2 + i) 0
+  name : (i : ℕ) → Comes text i → badName (sectionOfLine text i) (lineOf text i) ≡ true → Why text 6 (2 + i) (nameField (sectionOfLine text i))
+  not-declared : (i : ℕ) → Comes text i → notKnown (sectionOfLine text i) (before text i) (lineOf text i) ≡ true → Why text 7 (2 + i) (unknownField (sectionOfLine text i) (before text i) (lineOf text i))
+  declared-twice : (i : ℕ) → Comes text i → twice (sectionOfLine text i) (before text i) (lineOf text i) ≡ true → Why text 8 (2 + i) (nameField (sectionOfLine text i))
+  too-many : (i : ℕ) → Comes text i → full (sectionOfLine text i) (before text i) ≡ true → Why text 9 (2 + i) 0
+  stall-stable : (i : ℕ) → Comes text i → stallInStable (sectionOfLine text i) (before text i) (lineOf text i) ≡ true → Why text 10 (2 + i) 0
+  clashes : (i : ℕ) → Comes text i → conflict (sectionOfLine text i) (before text i) (lineOf text i) ≡ true → Why text 11 (2 + i) 0
+  no-message : Unbroken text (length (linesOf text)) → atEnd text .«message_count» ≡ 0 → Why text 12 0 0
+  no-entry : Unbroken text (length (linesOf text)) → (i : ℕ) → i < atEnd text .«cell_count» → FirstNoEntry (atEnd text) i → Why text 13 (cellLine (atEnd text) i) 0
 
 -- "Each refusal is given only under its row."
 abbrev pub OnlyUnderItsRow : Type 0
-OnlyUnderItsRow = (text : List ℕ) → (readProtocol text .refusal .number ≡ 0 → ⊥) → Why text (readProtocol text .refusal .number) (readProtocol text .refusal .line)
+OnlyUnderItsRow = (text : List ℕ) → (readProtocol text .refusal .number ≡ 0 → ⊥) → Why text (readProtocol text .refusal .number) (readProtocol text .refusal .line) (readProtocol text .refusal .field)
 
 -- What the mended rule (C-12) leaves: "13 is now given when no taken state has a carrier; its place is unchanged". A text that 13 did not refuse is still not refused by it:
 -- where it refuses, no line is refused, and the cell whose line is told has no entry with a carrier, as it was before.

@@ -39,10 +39,10 @@ enum-told-2 : tie.Need-enum-told-2
 enum-told-2 c = search needs
 
 returns-2 : tie.Need-returns-2
-returns-2 c = no-trigger (split 9 (c .before .before .before .before .before .before .before .before .before .before .args .line .now)) (c .before .before .before .before .before .before .before .before .before .before .args .whose) (c .before .before .before .before .before .before .before .before .before .before .args .messages) (c .before .before .before .before .before .before .before .before .before .before .args .message-count) (c .before .before .before .before .before .before .before .before .before .before .args .events) (c .before .before .before .before .before .before .before .before .before .before .args .event-count) (c .before .before .before .before .before .before .before .before .before .before .args .states) (c .before .before .before .before .before .before .before .before .before .before .args .state-count) (c .before .before .before .before .before .before .before .state-named .result) (c .before .before .before .before .before .before .before .state-named .ensures ∙ ap (λ (l : List ℕ). foundState (firstIndex (stateNamed (c .before .before .before .before .before .before .before .before .before .before .args .whose) l) (take (c .before .before .before .before .before .before .before .before .before .before .args .state-count) (c .before .before .before .before .before .before .before .before .before .before .args .states))) (c .before .before .before .before .before .before .before .before .before .before .args .state-count)) (c .before .before .before .before .before .before .before .before .field-at .ensures)) (c .before .before .trigger-at .result) (subst (λ (l : List ℕ). (TriggerTold l (c .before .before .before .before .before .before .before .before .before .before .args .whose) (c .before .before .before .before .before .before .before .before .before .before .args .messages) (c .before .before .before .before .before .before .before .before .before .before .args .message-count) (c .before .before .before .before .before .before .before .before .before .before .args .events) (c .before .before .before .before .before .before .before .before .before .before .args .event-count)) (c .before .before .trigger-at .result)) (c .before .before .before .field-at2 .ensures) (c .before .before .trigger-at .ensures)) _ refl (c .enum-told2 .given .1)
+returns-2 c = no-trigger (split 9 (c .before .before .before .before .before .before .before .before .before .before .args .line .now)) (c .before .before .before .before .before .before .before .before .before .before .args .whose) (c .before .before .before .before .before .before .before .before .before .before .args .messages) (c .before .before .before .before .before .before .before .before .before .before .args .message-count) (c .before .before .before .before .before .before .before .before .before .before .args .events) (c .before .before .before .before .before .before .before .before .before .before .args .event-count) (c .before .before .before .before .before .before .before .before .before .before .args .states) (c .before .before .before .before .before .before .before .before .before .before .args .state-count) (c .before .before .before .before .before .before .before .state-named .result) (c .before .before .before .before .before .before .before .state-named .ensures ∙ ap (λ (l : List ℕ). foundState (firstIndex (stateNamed (c .before .before .before .before .before .before .before .before .before .before .args .whose) l) (take (c .before .before .before .before .before .before .before .before .before .before .args .state-count) (c .before .before .before .before .before .before .before .before .before .before .args .states))) (c .before .before .before .before .before .before .before .before .before .before .args .state-count)) (c .before .before .before .before .before .before .before .before .field-at .ensures)) (c .before .before .before .before .before .found .given .0 .0) (c .before .before .before .before .before .found .given .1) (c .before .before .trigger-at .result) (subst (λ (l : List ℕ). (TriggerTold l (c .before .before .before .before .before .before .before .before .before .before .args .whose) (c .before .before .before .before .before .before .before .before .before .before .args .messages) (c .before .before .before .before .before .before .before .before .before .before .args .message-count) (c .before .before .before .before .before .before .before .before .before .before .args .events) (c .before .before .before .before .before .before .before .before .before .before .args .event-count)) (c .before .before .trigger-at .result)) (c .before .before .before .field-at2 .ensures) (c .before .before .trigger-at .ensures)) _ refl (c .enum-told2 .given .1)
 
 returns-3 : tie.Need-returns-3
-returns-3 c = placed (split 9 (c .before .before .before .before .before .before .before .before .before .before .before .args .line .now)) (c .before .before .before .before .before .before .before .before .before .before .before .args .whose) (c .before .before .before .before .before .before .before .before .before .before .before .args .messages) (c .before .before .before .before .before .before .before .before .before .before .before .args .message-count) (c .before .before .before .before .before .before .before .before .before .before .before .args .events) (c .before .before .before .before .before .before .before .before .before .before .before .args .event-count) (c .before .before .before .before .before .before .before .before .before .before .before .args .states) (c .before .before .before .before .before .before .before .before .before .before .before .args .state-count) (c .before .before .before .before .before .before .before .before .state-named .result) (c .before .before .before .before .before .before .before .before .state-named .ensures ∙ ap (λ (l : List ℕ). foundState (firstIndex (stateNamed (c .before .before .before .before .before .before .before .before .before .before .before .args .whose) l) (take (c .before .before .before .before .before .before .before .before .before .before .before .args .state-count) (c .before .before .before .before .before .before .before .before .before .before .before .args .states))) (c .before .before .before .before .before .before .before .before .before .before .before .args .state-count)) (c .before .before .before .before .before .before .before .before .before .field-at .ensures)) (c .before .before .before .trigger-at .result) (subst (λ (l : List ℕ). (TriggerTold l (c .before .before .before .before .before .before .before .before .before .before .before .args .whose) (c .before .before .before .before .before .before .before .before .before .before .before .args .messages) (c .before .before .before .before .before .before .before .before .before .before .before .args .message-count) (c .before .before .before .before .before .before .before .before .before .before .before .args .events) (c .before .before .before .before .before .before .before .before .before .before .before .args .event-count)) (c .before .before .before .trigger-at .result)) (c .before .before .before .before .field-at2 .ensures) (c .before .before .before .trigger-at .ensures)) _ refl (c .before .before .before .before .before .before .found .given .1) (c .before .told .given .1)
+returns-3 c = placed (split 9 (c .before .before .before .before .before .before .before .before .before .before .before .args .line .now)) (c .before .before .before .before .before .before .before .before .before .before .before .args .whose) (c .before .before .before .before .before .before .before .before .before .before .before .args .messages) (c .before .before .before .before .before .before .before .before .before .before .before .args .message-count) (c .before .before .before .before .before .before .before .before .before .before .before .args .events) (c .before .before .before .before .before .before .before .before .before .before .before .args .event-count) (c .before .before .before .before .before .before .before .before .before .before .before .args .states) (c .before .before .before .before .before .before .before .before .before .before .before .args .state-count) (c .before .before .before .before .before .before .before .before .state-named .result) (c .before .before .before .before .before .before .before .before .state-named .ensures ∙ ap (λ (l : List ℕ). foundState (firstIndex (stateNamed (c .before .before .before .before .before .before .before .before .before .before .before .args .whose) l) (take (c .before .before .before .before .before .before .before .before .before .before .before .args .state-count) (c .before .before .before .before .before .before .before .before .before .before .before .args .states))) (c .before .before .before .before .before .before .before .before .before .before .before .args .state-count)) (c .before .before .before .before .before .before .before .before .before .field-at .ensures)) (c .before .before .before .before .before .before .found .given .0 .0) (c .before .before .before .before .before .before .found .given .1) (c .before .before .before .trigger-at .result) (subst (λ (l : List ℕ). (TriggerTold l (c .before .before .before .before .before .before .before .before .before .before .before .args .whose) (c .before .before .before .before .before .before .before .before .before .before .before .args .messages) (c .before .before .before .before .before .before .before .before .before .before .before .args .message-count) (c .before .before .before .before .before .before .before .before .before .before .before .args .events) (c .before .before .before .before .before .before .before .before .before .before .before .args .event-count)) (c .before .before .before .trigger-at .result)) (c .before .before .before .before .field-at2 .ensures) (c .before .before .before .trigger-at .ensures)) _ refl refl (c .before .before .before .before .before .before .found .given .1) (c .before .told .given .1)
 
 pub place-of-spec : {M : Type 1} → statement M
 place-of-spec =

@@ -8,7 +8,7 @@ no-cell-requires : tie.Need-no-cell-requires
 no-cell-requires c κs = search needs
 
 returns : tie.Need-returns
-returns c = unread-is (c .no-cell .result) (c .no-cell .ensures)
+returns c = unread-is (c .before .args .field) (c .no-cell .result) (c .no-cell .ensures)
 
 pub unread-spec : {M : Type 1} → statement M
 unread-spec = tie.close (tie.spec no-cell-requires returns)

@@ -41,8 +41,14 @@ enum-known-found c = search needs
 enum-told : tie.Need-enum-told Inv-loop μ-loop
 enum-told c = search needs
 
+add-field : tie.Need-add-field Inv-loop μ-loop
+add-field c = omega arith
+
+cast-field : tie.Need-cast-field Inv-loop μ-loop
+cast-field c = omega arith
+
 returns : tie.Need-returns Inv-loop μ-loop
-returns c = sending-stops (c .before .before .before .before .before .before .before .before .args .messages) (c .before .before .before .before .before .before .before .before .args .message-count) (sentFields (split 9 (c .before .before .before .before .before .before .before .before .args .line .now))) (c .before .before .before .before .before .loop .j) (c .before .before .before .before .before .loop .sent) (c .before .before .before .before .before .loop .inv .1) (c .before .before .message-named .result) (omega (arith, length-drop 6 (split 9 (c .before .before .before .before .before .before .before .before .args .line .now)), counted (c .before .before .before .before .before .before .before .before .args .line .now) (c .before .before .before .before .before .before .before .before .args .f) (c .before .before .before .before .before .before .before .before .pre .0) (omega arith))) (c .before .before .message-named .ensures ∙ ap (λ (l : List ℕ). foundMessage (firstIndex (messageNamed l) (take (c .before .before .before .before .before .before .before .before .args .message-count) (c .before .before .before .before .before .before .before .before .args .messages))) (c .before .before .before .before .before .before .before .before .args .message-count)) (c .before .before .before .field-at .ensures ∙ sym (getD-drop 6 (split 9 (c .before .before .before .before .before .before .before .before .args .line .now)) (c .before .before .before .before .before .loop .j) []))) _ refl (c .enum-told .given .1)
+returns c = sending-stops (c .before .before .before .before .before .before .before .before .args .messages) (c .before .before .before .before .before .before .before .before .args .message-count) (sentFields (split 9 (c .before .before .before .before .before .before .before .before .args .line .now))) (c .before .before .before .before .before .loop .j) (c .before .before .before .before .before .loop .sent) (c .before .before .before .before .before .loop .inv .1) (c .before .before .message-named .result) (omega (arith, length-drop 6 (split 9 (c .before .before .before .before .before .before .before .before .args .line .now)), counted (c .before .before .before .before .before .before .before .before .args .line .now) (c .before .before .before .before .before .before .before .before .args .f) (c .before .before .before .before .before .before .before .before .pre .0) (omega arith))) (c .before .before .message-named .ensures ∙ ap (λ (l : List ℕ). foundMessage (firstIndex (messageNamed l) (take (c .before .before .before .before .before .before .before .before .args .message-count) (c .before .before .before .before .before .before .before .before .args .messages))) (c .before .before .before .before .before .before .before .before .args .message-count)) (c .before .before .before .field-at .ensures ∙ sym (getD-drop 6 (split 9 (c .before .before .before .before .before .before .before .before .args .line .now)) (c .before .before .before .before .before .loop .j) []))) _ refl refl (c .enum-told .given .1)
 
 array-set-from-sent : tie.Need-array-set-from-sent Inv-loop μ-loop
 array-set-from-sent c = omega arith
@@ -60,7 +66,7 @@ cast-count : tie.Need-cast-count Inv-loop μ-loop
 cast-count c = omega arith
 
 returns-2 : tie.Need-returns-2 Inv-loop μ-loop
-returns-2 c = sending-all (c .before .before .before .before .args .messages) (c .before .before .before .before .args .message-count) (sentFields (split 9 (c .before .before .before .before .args .line .now))) (c .before .loop .j) (c .before .loop .sent) (c .before .loop .inv .1) _ (omega (arith, length-drop 6 (split 9 (c .before .before .before .before .args .line .now)), counted (c .before .before .before .before .args .line .now) (c .before .before .before .before .args .f) (c .before .before .before .before .pre .0) (omega arith))) refl refl (omega (arith, length-drop 6 (split 9 (c .before .before .before .before .args .line .now)), counted (c .before .before .before .before .args .line .now) (c .before .before .before .before .args .f) (c .before .before .before .before .pre .0) (omega arith)))
+returns-2 c = sending-all (c .before .before .before .before .args .messages) (c .before .before .before .before .args .message-count) (sentFields (split 9 (c .before .before .before .before .args .line .now))) (c .before .loop .j) (c .before .loop .sent) (c .before .loop .inv .1) _ (omega (arith, length-drop 6 (split 9 (c .before .before .before .before .args .line .now)), counted (c .before .before .before .before .args .line .now) (c .before .before .before .before .args .f) (c .before .before .before .before .pre .0) (omega arith))) refl refl refl (omega (arith, length-drop 6 (split 9 (c .before .before .before .before .args .line .now)), counted (c .before .before .before .before .args .line .now) (c .before .before .before .before .args .f) (c .before .before .before .before .pre .0) (omega arith)))
 
 pub sent-of-spec : {M : Type 1} → statement M
 sent-of-spec =
@@ -75,6 +81,8 @@ sent-of-spec =
     message-named-requires
     enum-known-found
     enum-told
+    add-field
+    cast-field
     returns
     array-set-from-sent
     add-j

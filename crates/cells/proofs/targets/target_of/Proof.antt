@@ -30,10 +30,10 @@ sent-of-requires : tie.Need-sent-of-requires
 sent-of-requires c κs = search needs
 
 returns-2 : tie.Need-returns-2
-returns-2 c = not-sent (split 9 (c .before .before .before .before .before .before .before .before .before .args .line .now)) (c .before .before .before .before .before .before .before .before .before .args .whose) (c .before .before .before .before .before .before .before .before .before .args .messages) (c .before .before .before .before .before .before .before .before .before .args .message-count) (c .before .before .before .before .before .before .before .before .before .args .states) (c .before .before .before .before .before .before .before .before .before .args .state-count) (c .before .before .before .before .before .before .state-named .result) (c .before .before .before .before .before .before .state-named .ensures ∙ ap (λ (l : List ℕ). foundState (firstIndex (stateNamed (c .before .before .before .before .before .before .before .before .before .args .whose) l) (take (c .before .before .before .before .before .before .before .before .before .args .state-count) (c .before .before .before .before .before .before .before .before .before .args .states))) (c .before .before .before .before .before .before .before .before .before .args .state-count)) (c .before .before .before .before .before .before .before .field-at .ensures)) (c .before .before .sent-of .result) _ (c .before .before .sent-of .ensures) (not-true (c .before .before .sent-of .result .known) (c .if1 .taken)) refl
+returns-2 c = not-sent (split 9 (c .before .before .before .before .before .before .before .before .before .args .line .now)) (c .before .before .before .before .before .before .before .before .before .args .whose) (c .before .before .before .before .before .before .before .before .before .args .messages) (c .before .before .before .before .before .before .before .before .before .args .message-count) (c .before .before .before .before .before .before .before .before .before .args .states) (c .before .before .before .before .before .before .before .before .before .args .state-count) (c .before .before .before .before .before .before .state-named .result) (c .before .before .before .before .before .before .state-named .ensures ∙ ap (λ (l : List ℕ). foundState (firstIndex (stateNamed (c .before .before .before .before .before .before .before .before .before .args .whose) l) (take (c .before .before .before .before .before .before .before .before .before .args .state-count) (c .before .before .before .before .before .before .before .before .before .args .states))) (c .before .before .before .before .before .before .before .before .before .args .state-count)) (c .before .before .before .before .before .before .before .field-at .ensures)) (c .before .before .before .before .found .given .0 .0) (c .before .before .before .before .found .given .1) (c .before .before .sent-of .result) _ (c .before .before .sent-of .ensures) (not-true (c .before .before .sent-of .result .known) (c .if1 .taken)) refl
 
 returns-3 : tie.Need-returns-3
-returns-3 c = targeted (split 9 (c .before .before .before .before .before .before .before .before .before .before .args .line .now)) (c .before .before .before .before .before .before .before .before .before .before .args .whose) (c .before .before .before .before .before .before .before .before .before .before .args .messages) (c .before .before .before .before .before .before .before .before .before .before .args .message-count) (c .before .before .before .before .before .before .before .before .before .before .args .states) (c .before .before .before .before .before .before .before .before .before .before .args .state-count) (c .before .before .before .before .before .before .before .state-named .result) (c .before .before .before .before .before .before .before .state-named .ensures ∙ ap (λ (l : List ℕ). foundState (firstIndex (stateNamed (c .before .before .before .before .before .before .before .before .before .before .args .whose) l) (take (c .before .before .before .before .before .before .before .before .before .before .args .state-count) (c .before .before .before .before .before .before .before .before .before .before .args .states))) (c .before .before .before .before .before .before .before .before .before .before .args .state-count)) (c .before .before .before .before .before .before .before .before .field-at .ensures)) (c .before .before .before .sent-of .result) _ (c .before .before .before .sent-of .ensures) (not-false (c .before .before .before .sent-of .result .known) (c .before .if1 .left)) refl refl refl (c .before .before .before .before .before .found .given .1)
+returns-3 c = targeted (split 9 (c .before .before .before .before .before .before .before .before .before .before .args .line .now)) (c .before .before .before .before .before .before .before .before .before .before .args .whose) (c .before .before .before .before .before .before .before .before .before .before .args .messages) (c .before .before .before .before .before .before .before .before .before .before .args .message-count) (c .before .before .before .before .before .before .before .before .before .before .args .states) (c .before .before .before .before .before .before .before .before .before .before .args .state-count) (c .before .before .before .before .before .before .before .state-named .result) (c .before .before .before .before .before .before .before .state-named .ensures ∙ ap (λ (l : List ℕ). foundState (firstIndex (stateNamed (c .before .before .before .before .before .before .before .before .before .before .args .whose) l) (take (c .before .before .before .before .before .before .before .before .before .before .args .state-count) (c .before .before .before .before .before .before .before .before .before .before .args .states))) (c .before .before .before .before .before .before .before .before .before .before .args .state-count)) (c .before .before .before .before .before .before .before .before .field-at .ensures)) (c .before .before .before .sent-of .result) _ (c .before .before .before .sent-of .ensures) (not-false (c .before .before .before .sent-of .result .known) (c .before .if1 .left)) refl refl refl refl (c .before .before .before .before .before .found .given .1)
 
 pub target-of-spec : {M : Type 1} → statement M
 target-of-spec =

@@ -61,7 +61,7 @@ no-network-requires c κs = search needs
 
 returns : tie.Need-returns
 returns c =
-    gives-none (c .before .before .before .before .before .before .before .before .before .args .most) _ (c .before .before .before .before .before .before .before .before .before .args .row) _ (c .no-network .result) 14 (λ z. omega arith)
+    gives-none (c .before .before .before .before .before .before .before .before .before .args .most) _ (c .before .before .before .before .before .before .before .before .before .args .row) _ (c .no-network .result) 14 2 (λ z. omega arith)
     (λ before room. line-unmatched (c .before .before .before .before .before .before .before .before .before .args .most) before _ _ (c .before .before .before .before .before .before .before .before .before .pre .0) room (c .before .before .before .before .before .before .before .before .before .args .row) (sym (matched (c .before .before)) ∙ not-true (c .before .before .named .result) (c .before .if1 .taken))) (c .no-network .ensures)
 
 sub-network-of : tie.Need-sub-network-of
@@ -91,7 +91,7 @@ its-name c = sym (matched (c .before .before .before)) ∙ not-false (c .before 
 
 returns-2 : tie.Need-returns-2
 returns-2 c =
-    gives-none (c .before .before .before .before .before .before .before .before .before .before .before .before .before .args .most) _ (c .before .before .before .before .before .before .before .before .before .before .before .before .before .args .row) _ (c .no-network2 .result) 15 (λ z. omega arith)
+    gives-none (c .before .before .before .before .before .before .before .before .before .before .before .before .before .args .most) _ (c .before .before .before .before .before .before .before .before .before .before .before .before .before .args .row) _ (c .no-network2 .result) 15 3 (λ z. omega arith)
     (λ before room. line-no-network (c .before .before .before .before .before .before .before .before .before .before .before .before .before .args .most) before _ _ (c .before .before .before .before .before .before .before .before .before .before .before .before .before .pre .0) room (c .before .before .before .before .before .before .before .before .before .before .before .before .before .args .row) (its-name (c .before .before .before)) (not-found (c .before .before .before .before .before .before .before .before .before .before .before .before .before .args .most) _ (sym (c .before .enum-told .given .1) ∙ written (c .before .before .before)))) (c .no-network2 .ensures)
 
 returns-3 : tie.Need-returns-3
