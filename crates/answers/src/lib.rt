@@ -1,4 +1,5 @@
 // What the calls on texts answer, and how a host gets it as one number.
+#![tactic(auto)]
 pub mod refused_text;
 
 ghost use Rattle.std.specs.Prelude.{◌≡◌};
@@ -10,14 +11,14 @@ use papers::Refusal;
 pub const PRINTED: usize = 4096;
 
 // What a program prints: so many bytes at the front.
-#[derive(Drop)]
+#[derive(Clone, Copy)]
 pub struct PrintedBytes {
     pub bytes: [u8; PRINTED],
     pub length: usize,
 }
 
 // The answer of a call on texts. Every number is 0 unless the paper says otherwise.
-#[derive(Drop)]
+#[derive(Clone, Copy)]
 pub struct Answer {
     // why and where a paper is refused; its number is 0 on success
     pub refusal: Refusal,

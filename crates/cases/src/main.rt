@@ -17,6 +17,7 @@
 //   refused NUMBER 1 LINE FIELD
 //   networks NETWORK ..
 // Everything in a line is parted by one blank.
+#![tactic(auto)]
 
 ghost use Rattle.std.specs.Prelude.{◌<◌, ◌≤◌, length};
 ghost use Rattle.tables.specs.Cells.{TablesOk};

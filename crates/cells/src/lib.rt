@@ -1,4 +1,5 @@
 // A cell's line of a protocol text: how it is refused, and the cell it stands for.
+#![tactic(auto)]
 pub mod places;
 pub mod readings;
 pub mod shapes;
@@ -18,7 +19,7 @@ use tables::{Cell, EventRow, MessageRow, StateRow};
 use text::Fields;
 
 // How the line is refused, and the cell where it is not.
-#[derive(Drop)]
+#[derive(Clone, Copy)]
 pub struct CellLine {
     pub refusal: Refusal,
     pub cell: Cell,

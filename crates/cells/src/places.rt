@@ -10,14 +10,14 @@ use tables::names::{FoundEvent, FoundMessage, FoundState};
 use tables::{Controller, EventRow, MessageRow, StateRow, Trigger};
 use text::Fields;
 
-#[derive(Drop)]
+#[derive(Clone, Copy)]
 pub enum FoundTrigger {
     At(Trigger),
     Nothing,
 }
 
 // Where a cell stands, where its state and its trigger are known; else the first field that is not.
-#[derive(Drop)]
+#[derive(Clone, Copy)]
 pub struct Place {
     pub known: bool,
     pub field: u8,

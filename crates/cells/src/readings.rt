@@ -12,7 +12,7 @@ use tables::{Cell, Controller, EventRow, MessageRow, Outcome, Stability, StateRo
 use text::Fields;
 
 // A cell as it is read, where all that it names is known, and else the first field that is not; it is stuck where it stalls in a stable state.
-#[derive(Drop)]
+#[derive(Clone, Copy)]
 pub struct CellReading {
     pub known: bool,
     pub field: u8,

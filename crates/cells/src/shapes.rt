@@ -15,7 +15,7 @@ const MOST_FIELDS: usize = STALL_FIELDS + 1 + tables::SENT;
 
 // What a cell's line is made of: the controller that it names, and whether it stalls or goes on; else the field of the first fixed word that
 // is wrong, also where the count is wrong too, and 0 where only that is.
-#[derive(Drop)]
+#[derive(Clone, Copy)]
 pub enum Shape {
     Stall(Controller),
     Go(Controller),

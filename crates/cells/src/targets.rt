@@ -11,7 +11,7 @@ use tables::{Controller, MessageRow, StateRow};
 use text::Fields;
 
 // The messages that a line sends, where all are known; else the first field that is not.
-#[derive(Drop)]
+#[derive(Clone, Copy)]
 pub struct Sent {
     pub known: bool,
     pub field: u8,
@@ -20,7 +20,7 @@ pub struct Sent {
 }
 
 // Where a cell goes to and what it sends, where all of that is known; else the first field that is not.
-#[derive(Drop)]
+#[derive(Clone, Copy)]
 pub struct Target {
     pub known: bool,
     pub field: u8,

@@ -18,7 +18,7 @@ use text::Fields;
 const NAME_FIELD: u8 = 2;
 
 // How the line is refused, and the event where it is not.
-#[derive(Drop)]
+#[derive(Clone, Copy)]
 pub struct EventLine {
     pub refusal: Refusal,
     pub row: EventRow,

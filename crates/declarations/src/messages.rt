@@ -19,7 +19,7 @@ use text::Fields;
 const NAME_FIELD: u8 = 2;
 
 // How the line is refused, and the message where it is not.
-#[derive(Drop)]
+#[derive(Clone, Copy)]
 pub struct MessageLine {
     pub refusal: Refusal,
     pub row: MessageRow,

@@ -21,7 +21,7 @@ use text::Fields;
 const NAME_FIELD: u8 = 3;
 
 // How the line is refused, and the state where it is not.
-#[derive(Drop)]
+#[derive(Clone, Copy)]
 pub struct StateLine {
     pub refusal: Refusal,
     pub row: StateRow,

@@ -3,6 +3,7 @@
 // itself, then what vn_plan or vn_judge would print.
 //
 // The files data/ and stdout are made from the folder examples/ by tools/examples.
+#![tactic(auto)]
 
 // One byte more than the largest text: so much tells that a text is too big.
 const MOST: usize = papers::MOST_BYTES + 1;

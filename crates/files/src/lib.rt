@@ -1,4 +1,5 @@
 // Whole files for the programs.
+#![tactic(auto)]
 ghost use Rattle.io.specs.Counts.{IsPrefixLen};
 
 // The file's bytes, at the front of text, as far as there is room for them. A file that cannot be opened counts as empty,

@@ -1,4 +1,5 @@
 // The judging call: a protocol text and a mapping text in, a listing out.
+#![tactic(auto)]
 pub mod program;
 
 ghost use Rattle.std.specs.Prelude.{◌<◌};

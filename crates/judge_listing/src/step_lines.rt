@@ -6,7 +6,7 @@ ghost use Rattle.judge_listing.specs.step_lines.StepLine.{between, word_text, wo
 use text::Name;
 
 // A step as its line shows it: two names, and whether the word between them is `waits`.
-#[derive(Drop)]
+#[derive(Clone, Copy)]
 pub struct NamedStep {
     pub from: Name,
     pub waits: bool,

@@ -1,4 +1,5 @@
 // The words of one line of a protocol text.
+#![tactic(auto)]
 pub mod misplaced;
 pub mod next;
 pub mod shapes;

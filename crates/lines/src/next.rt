@@ -6,7 +6,7 @@ ghost use Rattle.lines.specs.next.Next.{Next};
 use text::Fields;
 
 // Where the line ends, its fields, and whether its first field is the word that was asked for.
-#[derive(Drop)]
+#[derive(Clone, Copy)]
 pub struct NextLine {
     pub end: usize,
     pub fields: Fields,

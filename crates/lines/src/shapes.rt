@@ -12,14 +12,14 @@ use tables::{Controller, Kind, Stability};
 use text::Fields;
 
 // The fixed word of a message's line, or the field that is wrong.
-#[derive(Drop)]
+#[derive(Clone, Copy)]
 pub enum MessageWords {
     Are(Kind),
     Wrong(u8),
 }
 
 // The fixed words of a state's line, or the field that is wrong.
-#[derive(Drop)]
+#[derive(Clone, Copy)]
 pub enum StateWords {
     Are(Controller, Stability),
     Wrong(u8),

@@ -8,7 +8,7 @@ ghost use Rattle.lines.specs.words.Found.{found_kind, found_controller, found_st
 use tables::{Controller, Kind, Stability};
 use text::Fields;
 
-#[derive(Drop)]
+#[derive(Clone, Copy)]
 pub enum FoundKind {
     Is(Kind),
     Nothing,
@@ -36,13 +36,13 @@ pub(crate) fn kind_at(line: &[u8], f: Fields, i: usize) -> FoundKind
 
 // ---- a state
 
-#[derive(Drop)]
+#[derive(Clone, Copy)]
 pub enum FoundController {
     Is(Controller),
     Nothing,
 }
 
-#[derive(Drop)]
+#[derive(Clone, Copy)]
 pub enum FoundStability {
     Is(Stability),
     Nothing,

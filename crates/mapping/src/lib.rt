@@ -1,4 +1,5 @@
 // The mapping reader.
+#![tactic(auto)]
 pub mod lines;
 pub mod networks;
 
@@ -19,7 +20,7 @@ const FIRST_MOST: usize = 32;
 const SECOND_MOST: usize = 64;
 
 // What reading a mapping gives: the network of each message, or why and where it is refused.
-#[derive(Drop)]
+#[derive(Clone, Copy)]
 pub struct Mapped {
     pub refusal: Refusal,
     pub networks: [Network; tables::MESSAGES],

@@ -10,14 +10,14 @@ use rules::Network;
 use tables::MessageRow;
 
 // How the line is refused, and its network where it is not.
-#[derive(Drop)]
+#[derive(Clone, Copy)]
 pub struct MapLine {
     pub refusal: Refusal,
     pub network: Network,
 }
 
 // Whether a line is shaped; where it is not, the field that is wrong, counted from 1, and 0 where only the number of fields is.
-#[derive(Drop)]
+#[derive(Clone, Copy)]
 pub enum MapShape {
     Is,
     Wrong(u8),

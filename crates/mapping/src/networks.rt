@@ -4,7 +4,7 @@ ghost use Rattle.mapping.specs.networks.Networks.{found_network};
 
 use rules::Network;
 
-#[derive(Drop)]
+#[derive(Clone, Copy)]
 pub enum FoundNetwork {
     Is(Network),
     Nothing,

@@ -1,4 +1,5 @@
 // What every paper has in common: it is not too big, its last line ends, and it begins with its header.
+#![tactic(auto)]
 ghost use Rattle.std.specs.Prelude.{◌≡◌};
 ghost use Rattle.papers.specs.Opening.{opening_of};
 
@@ -43,7 +44,7 @@ pub const STRAY: u8 = 18;
 pub const MOST_BYTES: usize = 49152;
 
 // Why and where a paper is refused: one value from the line that finds it to the answer. Its number is 0 where nothing is refused.
-#[derive(Drop)]
+#[derive(Clone, Copy)]
 pub struct Refusal {
     pub number: u8,
     pub line: usize,

@@ -1,4 +1,5 @@
 // The planning call: a protocol text in, a listing out.
+#![tactic(auto)]
 pub mod program;
 
 ghost use Rattle.std.specs.Prelude.{◌<◌};

@@ -1,4 +1,5 @@
 // The protocol reader: a text to tables, or a refusal.
+#![tactic(auto)]
 pub mod sections;
 pub mod whole;
 

@@ -7,7 +7,7 @@ use papers::Refusal;
 use tables::Tables;
 
 // What reading a protocol gives: the tables, or why and where it is refused.
-#[derive(Drop)]
+#[derive(Clone, Copy)]
 pub struct Reading {
     pub refusal: Refusal,
     pub tables: Tables,

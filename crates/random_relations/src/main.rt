@@ -28,6 +28,7 @@
 // length, networks, length needed, waits pairs, and the whole output, a character for each byte: the digits 0 to 9,
 // a to z and A to Z for 0 to 61, a plus sign for 62, a minus sign for 63, a dot for 255, and a question mark for
 // everything else. The line of an accepted call ends in a blank, the word `joins`, a blank and the number of row joins.
+#![tactic(auto)]
 
 ghost use Rattle.std.specs.Prelude.{◌*◌, ◌<◌, ◌≤◌, ◌≡◌, length};
 
@@ -83,7 +84,7 @@ fn bit(place: usize) -> u8 {
 const TABLE: usize = 520;
 
 // A form of the call: how many bytes a row has, and how many messages there may be.
-#[derive(Drop)]
+#[derive(Clone, Copy)]
 struct Form {
     size: usize,
     most: usize,
@@ -316,7 +317,7 @@ fn report(size: usize, n: usize, causes: &[u8], stalls: &[u8], out: &mut [u8]) {
 }
 
 // The numbers that are given to the call.
-#[derive(Drop)]
+#[derive(Clone, Copy)]
 struct Given {
     n: usize,
     causes: usize,

@@ -3,7 +3,7 @@ ghost use Rattle.std.specs.Prelude.{◌≡◌};
 ghost use Rattle.relations.specs.answer.Packed.{RelationsSmall, packed_relations};
 
 // The answer of the relations call. Every number is 0 unless the paper says otherwise.
-#[derive(Drop)]
+#[derive(Clone, Copy)]
 pub struct RelationsAnswer {
     // the refusal number, 0 on success
     pub number: u8,

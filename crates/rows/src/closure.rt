@@ -4,7 +4,7 @@ ghost use Rattle.rows.specs.Closure.{Joined, Counted, Round, Holders, HeldBits, 
 ghost use Rattle.rows.specs.Joins.{joins};
 
 // What a turn of one row gives.
-#[derive(Drop)]
+#[derive(Clone, Copy)]
 struct Turn {
     // the row after it
     row: u64,

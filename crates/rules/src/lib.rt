@@ -1,21 +1,22 @@
 // The numbers that the paper keeps apart. Message, network and state numbers all start at 0, and one has been read as another before:
 // each is a type of its own, and only `index` turns one into the place of a row.
+#![tactic(auto)]
 ghost use Rattle.std.specs.Prelude.{◌≡◌};
 
 // A message's number, in the order of the file.
-#[derive(Drop)]
+#[derive(Clone, Copy)]
 pub struct Message(pub u8);
 
 // The number of a virtual network.
-#[derive(Drop)]
+#[derive(Clone, Copy)]
 pub struct Network(pub u8);
 
 // A state's number, in the order of the file, over both controllers.
-#[derive(Drop)]
+#[derive(Clone, Copy)]
 pub struct State(pub u8);
 
 // The number of a core access, in the order of the file.
-#[derive(Drop)]
+#[derive(Clone, Copy)]
 pub struct Event(pub u8);
 
 impl Message {

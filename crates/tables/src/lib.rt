@@ -1,4 +1,5 @@
 // The controller tables of a protocol: the records they are made of, and the tables' value.
+#![tactic(auto)]
 pub mod conflicts;
 pub mod names;
 
@@ -20,7 +21,7 @@ pub const CELLS: usize = 512;
 pub const SENT: usize = 8;
 
 // What a message is for. It is stored and has no effect on the relations.
-#[derive(Drop)]
+#[derive(Clone, Copy)]
 pub enum Kind {
     Req,
     Fwd,
@@ -29,35 +30,35 @@ pub enum Kind {
 }
 
 // Whose state a state is.
-#[derive(Drop)]
+#[derive(Clone, Copy)]
 pub enum Controller {
     Cache,
     Dir,
 }
 
 // A stall may stand in a transient state only.
-#[derive(Drop)]
+#[derive(Clone, Copy)]
 pub enum Stability {
     Stable,
     Transient,
 }
 
 // What a cell answers to: a message, or on the cache also a core access.
-#[derive(Drop)]
+#[derive(Clone, Copy)]
 pub enum Trigger {
     Message(Message),
     Event(Event),
 }
 
 // What a cell does: nothing for now, or go to its next state.
-#[derive(Drop)]
+#[derive(Clone, Copy)]
 pub enum Outcome {
     Stall,
     Go(State),
 }
 
 // One cell of a controller's table. Its line is not stored: it follows from the counts and the cell's place.
-#[derive(Drop)]
+#[derive(Clone, Copy)]
 pub struct Cell {
     pub state: State,
     pub trigger: Trigger,
@@ -66,18 +67,18 @@ pub struct Cell {
     pub sent_count: u8,
 }
 
-#[derive(Drop)]
+#[derive(Clone, Copy)]
 pub struct MessageRow {
     pub name: Name,
     pub kind: Kind,
 }
 
-#[derive(Drop)]
+#[derive(Clone, Copy)]
 pub struct EventRow {
     pub name: Name,
 }
 
-#[derive(Drop)]
+#[derive(Clone, Copy)]
 pub struct StateRow {
     pub name: Name,
     pub controller: Controller,
@@ -85,7 +86,7 @@ pub struct StateRow {
 }
 
 // All there is to know of a protocol. What is past a count is as cleared.
-#[derive(Drop)]
+#[derive(Clone, Copy)]
 pub struct Tables {
     pub messages: [MessageRow; MESSAGES],
     pub events: [EventRow; EVENTS],

@@ -6,19 +6,19 @@ ghost use Rattle.tables.specs.names.Names.{message_named_lem, event_named_lem, f
 use crate::{Controller, EventRow, MessageRow, StateRow};
 use rules::{Event, Message, State};
 
-#[derive(Drop)]
+#[derive(Clone, Copy)]
 pub enum FoundMessage {
     At(Message),
     Nothing,
 }
 
-#[derive(Drop)]
+#[derive(Clone, Copy)]
 pub enum FoundEvent {
     At(Event),
     Nothing,
 }
 
-#[derive(Drop)]
+#[derive(Clone, Copy)]
 pub enum FoundState {
     At(State),
     Nothing,

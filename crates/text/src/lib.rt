@@ -1,4 +1,6 @@
 // Texts as bytes: compared, searched, counted and copied; and what fields and names are kept in.
+#![tactic(auto)]
+
 pub mod line_fields;
 pub mod names;
 pub mod words;
@@ -15,14 +17,14 @@ pub const NAME_BYTES: usize = 24;
 pub const FIELDS: usize = 15;
 
 // A declared name: its bytes, zeros behind them, and how many bytes it has.
-#[derive(Drop)]
+#[derive(Clone, Copy)]
 pub struct Name {
     pub bytes: [u8; NAME_BYTES],
     pub length: u8,
 }
 
 // The fields of a line, at most so many: where each starts and ends. Past the count there are zeros.
-#[derive(Drop)]
+#[derive(Clone, Copy)]
 pub struct Fields {
     pub count: usize,
     pub from: [usize; FIELDS],

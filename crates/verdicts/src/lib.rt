@@ -1,4 +1,5 @@
 // What is found out about a protocol's tables: a plan, or the judgement of a mapping; and the plan itself.
+#![tactic(auto)]
 pub mod judgement;
 
 ghost use Rattle.std.specs.Prelude.{◌≡◌, map, ◌<◌, ◌≤◌};
@@ -11,7 +12,7 @@ use rules::{Message, Network};
 use tables::Tables;
 
 // A plan: the least count and each message's network; or count 0 and the shown cycle.
-#[derive(Drop)]
+#[derive(Clone, Copy)]
 pub struct PlanFound {
     pub count: usize,
     pub networks: [Network; tables::MESSAGES],
@@ -20,7 +21,7 @@ pub struct PlanFound {
 }
 
 // A judgement: the shown cycle, of length 0 where the mapping is fit, and the rows of waits.
-#[derive(Drop)]
+#[derive(Clone, Copy)]
 pub struct JudgementFound {
     pub cycle_length: usize,
     pub cycle: [Message; tables::MESSAGES],

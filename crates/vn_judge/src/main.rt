@@ -1,5 +1,6 @@
 // The judging program: protocol.tsv and mapping.tsv in the current folder, the listing or the refusal on standard output.
 // A file that can't be opened counts as an empty text.
+#![tactic(auto)]
 
 // One byte more than the largest text: so much tells that a text is too big.
 const MOST: usize = papers::MOST_BYTES + 1;

@@ -1,4 +1,5 @@
 // The planning program: a protocol text on standard input, the listing or the refusal on standard output.
+#![tactic(auto)]
 
 // One byte more than the largest text: so much tells that a text is too big.
 const MOST: usize = papers::MOST_BYTES + 1;

@@ -1,4 +1,5 @@
 // The rows of waits by rule 4, and the number of waits pairs.
+#![tactic(auto)]
 pub mod steps;
 
 ghost use Rattle.std.specs.Prelude.{◌≡◌, ◌≤◌, length};

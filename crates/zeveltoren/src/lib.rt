@@ -1,4 +1,5 @@
 // Every call that a host makes, and nothing else: each answers as the library does, its numbers packed into one.
+#![tactic(auto)]
 ghost use Rattle.zeveltoren.specs.Packed.{PackedRelations, PackedCheck, PackedPlan, PackedJudgement};
 
 // The relations call.
