@@ -1,5 +1,6 @@
 // One row of bits, and rows cleared. Rows know only bit places: what a place stands for is for the caller to say.
 #![tactic(auto)]
+
 pub mod closure;
 pub mod gather;
 
