@@ -1,5 +1,6 @@
 // What every paper has in common: it is not too big, its last line ends, and it begins with its header.
 #![tactic(auto)]
+
 ghost use Rattle.std.specs.Prelude.{◌≡◌};
 ghost use Rattle.papers.specs.Opening.{opening_of};
 

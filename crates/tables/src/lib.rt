@@ -1,5 +1,6 @@
 // The controller tables of a protocol: the records they are made of, and the tables' value.
 #![tactic(auto)]
+
 pub mod conflicts;
 pub mod names;
 

@@ -1,5 +1,6 @@
 // The rows of waits by rule 4, and the number of waits pairs.
 #![tactic(auto)]
+
 pub mod steps;
 
 ghost use Rattle.std.specs.Prelude.{◌≡◌, ◌≤◌, length};
