@@ -1,6 +1,7 @@
 // Walks in a relation that is given by rows of bits: bit j of row i says that a step leads from i to j. Heights and the shown
 // cycle are found in the modules; one step back, which both take, is here. A set of numbers is a row too.
 #![tactic(auto)]
+
 pub mod cycles;
 pub mod heights;
 

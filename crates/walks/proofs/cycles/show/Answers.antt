@@ -1,0 +1,66 @@
+-- `walks::cycles::show` meets its contract.
+use Prim.Native.Nat.{◌-◌, ◌<◌}
+use mathlib.Core.Path.{◌∙◌}
+use native.Mathlib.Nat.{pos_of_ne-zero}
+use native.Mathlib.Omega.{arith}
+use lib.ListN.{get_or, length-set}
+use Rattle.walks.proofs.cycles.Layering.{Layer}
+use Rattle.walks.proofs.cycles.Picks.{picks_start, picks-some, picks-step, picks-end, chosen_is}
+use Rattle.walks.proofs.cycles.show.Goals as goal
+
+pub loop-i-init : goal.loop-i-init
+loop-i-init c =
+    let a = c.args in
+    picks_start a.w.now a.s.now a.n a.len a.x (omega arith) a.out.now (omega arith) (omega arith) c.requires.found_at
+
+pub lowest-z-requires : goal.lowest-z-requires
+lowest-z-requires c =
+    let layer-at : let a = c.args in Layer a.s.now a.n a.x (a.len - c.loop-i.i) (get_or a.sets.now (a.len - c.loop-i.i) 0) = let l = c.loop-i in c.requires.layers (c.args.len - l.i) (omega (arith, l.invariant.is)) in
+    let a = c.args in
+    let l = c.loop-i in
+    pos_of_ne-zero (picks-some a.w.now a.s.now a.n a.len a.x (omega arith) _ l.out l.row l.i _ c.meet.result layer-at c.meet.ensures l.invariant)
+
+pub overflow_cast-out-in-loop-i : goal.overflow_cast-out-in-loop-i
+overflow_cast-out-in-loop-i c =
+    let layer-at : let a = c.args in Layer a.s.now a.n a.x (a.len - c.loop-i.i) (get_or a.sets.now (a.len - c.loop-i.i) 0) = let l = c.loop-i in c.requires.layers (c.args.len - l.i) (omega (arith, l.invariant.is)) in
+    let small : c.lowest-z.result < c.args.n = let a = c.args in let l = c.loop-i in let m = c.meet in (chosen_is a.w.now a.s.now a.n a.len a.x (omega arith) _ l.out l.row l.i _ m.result c.lowest-z.result (omega (arith, length-set a.out.now 0 a.x)) (omega arith) layer-at m.ensures c.lowest-z.ensures l.invariant).0 in
+    omega (arith, small)
+
+pub bounds-out-i : goal.bounds-out-i
+bounds-out-i c =
+    let a = c.args in
+    let l = c.loop-i in
+    omega (arith, length-set a.out.now 0 a.x, l.invariant.same_length)
+
+pub offset_bounds-s-z : goal.offset_bounds-s-z
+offset_bounds-s-z c =
+    let layer-at : let a = c.args in Layer a.s.now a.n a.x (a.len - c.loop-i.i) (get_or a.sets.now (a.len - c.loop-i.i) 0) = let l = c.loop-i in c.requires.layers (c.args.len - l.i) (omega (arith, l.invariant.is)) in
+    let small : c.lowest-z.result < c.args.n = let a = c.args in let l = c.loop-i in let m = c.meet in (chosen_is a.w.now a.s.now a.n a.len a.x (omega arith) _ l.out l.row l.i _ m.result c.lowest-z.result (omega (arith, length-set a.out.now 0 a.x)) (omega arith) layer-at m.ensures c.lowest-z.ensures l.invariant).0 in
+    omega (arith, small)
+
+pub bounds-s-z : goal.bounds-s-z
+bounds-s-z c =
+    let layer-at : let a = c.args in Layer a.s.now a.n a.x (a.len - c.loop-i.i) (get_or a.sets.now (a.len - c.loop-i.i) 0) = let l = c.loop-i in c.requires.layers (c.args.len - l.i) (omega (arith, l.invariant.is)) in
+    let small : c.lowest-z.result < c.args.n = let a = c.args in let l = c.loop-i in let m = c.meet in (chosen_is a.w.now a.s.now a.n a.len a.x (omega arith) _ l.out l.row l.i _ m.result c.lowest-z.result (omega (arith, length-set a.out.now 0 a.x)) (omega arith) layer-at m.ensures c.lowest-z.ensures l.invariant).0 in
+    omega (arith, small)
+
+pub loop-i-preserved : goal.loop-i-preserved
+loop-i-preserved c =
+    let layer-at : let a = c.args in Layer a.s.now a.n a.x (a.len - c.loop-i.i) (get_or a.sets.now (a.len - c.loop-i.i) 0) = let l = c.loop-i in c.requires.layers (c.args.len - l.i) (omega (arith, l.invariant.is)) in
+    let a = c.args in
+    let l = c.loop-i in
+    let m = c.meet in
+    let z = c.lowest-z in
+    picks-step a.w.now a.s.now a.n a.len a.x (omega arith) _ l.out l.row l.i _ m.result z.result (omega (arith, length-set a.out.now 0 a.x)) (omega arith) layer-at m.ensures z.ensures l.invariant
+
+pub shape_of-out : goal.shape_of-out
+shape_of-out c =
+    let a = c.args in
+    c.loop-i.invariant.same_length ∙ length-set a.out.now 0 a.x
+
+pub returns : goal.returns
+returns c =
+    let a = c.args in
+    let p = c.requires in
+    let l = c.loop-i in
+    picks-end a.w.now a.s.now a.n a.len a.x (omega arith) p.found_at p.within a.out.now l.out l.row l.i (omega arith) (omega arith) (omega arith) l.invariant
