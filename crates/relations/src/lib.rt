@@ -1,5 +1,6 @@
 // The relations call in two forms: the plan of bare relations, which two tables of bytes give.
 #![tactic(auto)]
+
 pub mod answer;
 pub mod checks;
 pub mod plans;

@@ -125,7 +125,7 @@ module _ (n : ℕ) (rows old : List ℕ) (room : n ≤ length old) (sum : ℕ) (
       → WaitsPlan n rows j old new (record { number = 0; length = len; networks = 0; needed = 0; pairs = sum; joins = j })
   cycled mid new k len e h c = record {
     written = take len new;
-    wrote = wrote-first len old new (c.long ∙ ap length (h.kept e)) (omega (arith, c.ranges)) (c.rest ∙ ap (λ (l : List ℕ). drop len l) (h.kept e));
+    wrote = wrote-first len old new (c.long ∙ ap length (h.kept e)) (omega (arith, c.fits)) (c.rest ∙ ap (λ (l : List ℕ). drop len l) (h.kept e));
     class = inr (record { none = refl; shown = c.shown found });
     row_pairs = counted;
     row_joins = refl;

@@ -1,0 +1,33 @@
+-- `relations::relations` meets its contract.
+use mathlib.Core.Path.{◌≡◌, refl, sym, ◌∙◌}
+use mathlib.Core.Logic.{inl}
+use native.Mathlib.Omega.{arith}
+use lib.ListN.{length}
+use Rattle.relations.specs.checks.CallChecks.{relations_refusal}
+use Rattle.relations.proofs.checks.Passing.{passed}
+use Rattle.relations.proofs.Calls.{call-refused, call-planned}
+use Rattle.relations.proofs.relations.Goals as goal
+
+pub first_check-number-requires : goal.first_check-number-requires
+first_check-number-requires c = (inl refl, omega arith)
+
+pub returns-then-number-ne0 : goal.returns-then-number-ne0
+returns-then-number-ne0 c =
+    let a = c.args in
+    let f = c.first_check-number in
+    call-refused 4 32 a.n a.causes.now a.stalls.now a.out.now c.refusal.result f.result f.ensures c.if-number-ne0.true c.refusal.ensures
+
+pub plan_tables-requires : goal.plan_tables-requires
+plan_tables-requires c =
+    let passed-all : let a = c.args in (relations_refusal 4 32 a.n a.causes.now a.stalls.now (length a.out.now)).number ≡ 0 = sym c.first_check-number.ensures ∙ c.if-number-ne0.false in
+    let a = c.args in
+    let p = passed 4 32 a.n a.causes.now a.stalls.now (length a.out.now) passed-all in
+    let k = p.count in
+    record { row_size = (inl refl, k.some, omega (arith, k.few), k.causes-long, k.stalls-long); not_stray = (p.causes-straight, p.stalls-straight); n_in_bounds = (k.few, k.few, k.few, p.fits) }
+
+pub returns : goal.returns
+returns c =
+    let passed-all : let a = c.args in (relations_refusal 4 32 a.n a.causes.now a.stalls.now (length a.out.now)).number ≡ 0 = sym c.first_check-number.ensures ∙ c.if-number-ne0.false in
+    let a = c.args in
+    let p = c.plan_tables in
+    call-planned 4 32 a.n a.causes.now a.stalls.now a.out.now p.result p.new.out passed-all p.ensures
