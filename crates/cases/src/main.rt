@@ -26,6 +26,8 @@ ghost use Rattle.cases.specs.Printable.{Printable};
 use mapping::Mapped;
 use protocol::whole::Reading;
 use rules::Network;
+use std::io;
+use std::io::Read;
 use tables::{MessageRow, Tables};
 
 // What stands for a byte where the input has ended.
@@ -47,9 +49,9 @@ fn first_of(bytes: &[u8]) -> usize
 }
 
 // The next byte of the input.
-fn next_byte() -> usize {
+fn next_byte(input: &mut impl Read) -> usize {
     let mut one = [0u8; 1];
-    let got = libc::read(0, &mut one);
+    let got = files::read_full(input, &mut one);
     if got == 1 {
         return first_of(&one);
     }
@@ -57,10 +59,10 @@ fn next_byte() -> usize {
 }
 
 // Whether the input goes on with these bytes. They are read as far as they agree, and one more.
-fn goes_on_with(word: &[u8]) -> bool {
+fn goes_on_with(input: &mut impl Read, word: &[u8]) -> bool {
     let mut i: usize = 0;
     while i < word.len() {
-        if next_byte() != word[i] as usize {
+        if next_byte(input) != word[i] as usize {
             return false;
         }
         i += 1;
@@ -69,11 +71,11 @@ fn goes_on_with(word: &[u8]) -> bool {
 }
 
 // A number that is not above the most, in at most five digits, and the byte that ends it; else a number above the most.
-fn number(end: usize) -> usize {
+fn number(input: &mut impl Read, end: usize) -> usize {
     let mut value: usize = 0;
     let mut left: usize = 6;
     while left > 0 {
-        let byte = next_byte();
+        let byte = next_byte(input);
         if byte == end {
             return value;
         }
@@ -94,205 +96,227 @@ fn number(end: usize) -> usize {
 
 // ---- the output
 
-fn print_word(word: &[u8]) {
-    io::write_all(1, word);
+fn print_word(rt: &impl Print, word: &[u8]) -> io::Result<()> {
+    rt.write_all(word)
 }
 
 // A blank, and a number after it.
-fn print_number(number: usize) {
-    io::write_all(1, b" ");
-    io::print_decimal(1, number as u64);
+fn print_number(rt: &impl Print, number: usize) -> io::Result<()> {
+    print!(rt; " {number}")
 }
 
 // A blank, and a row after it.
-fn print_row(row: u64) {
-    io::write_all(1, b" ");
-    io::print_hex(1, row, 1);
+fn print_row(rt: &impl Print, row: u64) -> io::Result<()> {
+    print!(rt; " {row:x}")
 }
 
 // The rows of the messages.
-fn print_rows(rows: [u64; tables::MESSAGES], count: usize)
+fn print_rows(rt: &impl Print, rows: [u64; tables::MESSAGES], count: usize) -> io::Result<()>
     requires { count ≤ 64 }
 {
     let mut i: usize = 0;
     while i < count {
-        print_row(rows[i]);
+        print_row(rt, rows[i])?;
         i += 1;
     }
+    Ok(())
 }
 
 // The networks of the messages.
-fn print_networks(networks: [Network; tables::MESSAGES], count: usize)
+fn print_networks(
+    rt: &impl Print,
+    networks: [Network; tables::MESSAGES],
+    count: usize,
+) -> io::Result<()>
     requires { count ≤ 64 }
 {
     let mut i: usize = 0;
     while i < count {
         let network = networks[i];
-        print_number(network.0 as usize);
+        print_number(rt, network.0 as usize)?;
         i += 1;
     }
+    Ok(())
 }
 
-fn print_refusal(number: u8, paper: usize, line: usize, field: u8) {
-    print_word(b"refused");
-    print_number(number as usize);
-    print_number(paper);
-    print_number(line);
-    print_number(field as usize);
+fn print_refusal(
+    rt: &impl Print,
+    number: u8,
+    paper: usize,
+    line: usize,
+    field: u8,
+) -> io::Result<()> {
+    print_word(rt, b"refused")?;
+    print_number(rt, number as usize)?;
+    print_number(rt, paper)?;
+    print_number(rt, line)?;
+    print_number(rt, field as usize)
 }
 
-fn print_tables(t: Tables)
+fn print_tables(rt: &impl Print, t: Tables) -> io::Result<()>
     requires { TablesOk t }
 {
-    print_word(b"accepted");
-    print_number(t.message_count);
-    print_number(t.event_count);
-    print_number(t.state_count);
-    print_number(t.cell_count);
+    print_word(rt, b"accepted")?;
+    print_number(rt, t.message_count)?;
+    print_number(rt, t.event_count)?;
+    print_number(rt, t.state_count)?;
+    print_number(rt, t.cell_count)?;
     let causes = table_rows::causes::causes_rows(t);
     let stalls = table_rows::stalls::stalls_rows(t);
-    print_word(b" causes");
-    print_rows(causes, t.message_count);
-    print_word(b" stalls");
-    print_rows(stalls, t.message_count);
+    print_word(rt, b" causes")?;
+    print_rows(rt, causes, t.message_count)?;
+    print_word(rt, b" stalls")?;
+    print_rows(rt, stalls, t.message_count)
 }
 
 // What the protocol reader answers.
-fn print_reading(r: Reading)
+fn print_reading(rt: &impl Print, r: Reading) -> io::Result<()>
     requires { Printable r }
 {
     let t = r.tables;
     if r.refusal.number == 0 {
-        print_tables(t);
+        print_tables(rt, t)
     } else {
-        print_refusal(r.refusal.number, 0, r.refusal.line, r.refusal.field);
+        print_refusal(rt, r.refusal.number, 0, r.refusal.line, r.refusal.field)
     }
 }
 
 // What the mapping reader answers, of so many messages.
-fn print_mapped(m: Mapped, count: usize)
+fn print_mapped(rt: &impl Print, m: Mapped, count: usize) -> io::Result<()>
     requires { count ≤ 64 }
 {
     let networks = m.networks;
     if m.refusal.number == 0 {
-        print_word(b" networks");
-        print_networks(networks, count);
+        print_word(rt, b" networks")?;
+        print_networks(rt, networks, count)
     } else {
-        print_word(b" ");
-        print_refusal(m.refusal.number, 1, m.refusal.line, m.refusal.field);
+        print_word(rt, b" ")?;
+        print_refusal(rt, m.refusal.number, 1, m.refusal.line, m.refusal.field)
     }
 }
 
 // ---- the items
 
 // As many bytes of the input as there is room, as a protocol text.
-fn protocol_in(room: &mut [u8]) -> Reading
+fn protocol_in(input: &mut impl Read, room: &mut [u8]) -> Reading
     ensures { Printable result }
 {
-    let got = io::read_full(0, room);
+    let got = files::read_full(input, room);
     protocol::read_protocol(&room[..got])
 }
 
 // The next n bytes as a protocol text.
-fn protocol_of(n: usize) -> Reading
+fn protocol_of(input: &mut impl Read, n: usize) -> Reading
     requires { n ≤ 65536 }
     ensures { Printable result }
 {
-    let mut text = io::large_buffer();
-    protocol_in(&mut text[..n])
+    let mut text = [0u8; MOST];
+    protocol_in(input, &mut text[..n])
 }
 
 // As many bytes of the input as there is room, as a mapping text of the first messages.
-fn mapping_in(room: &mut [u8], messages: [MessageRow; tables::MESSAGES], count: usize) -> Mapped
+fn mapping_in(
+    input: &mut impl Read,
+    room: &mut [u8],
+    messages: [MessageRow; tables::MESSAGES],
+    count: usize,
+) -> Mapped
     requires { count ≤ 64 }
 {
-    let got = io::read_full(0, room);
+    let got = files::read_full(input, room);
     mapping::read_mapping(&room[..got], messages, count)
 }
 
 // The next n bytes as a mapping text of the first messages.
-fn mapping_of(n: usize, messages: [MessageRow; tables::MESSAGES], count: usize) -> Mapped
+fn mapping_of(
+    input: &mut impl Read,
+    n: usize,
+    messages: [MessageRow; tables::MESSAGES],
+    count: usize,
+) -> Mapped
     requires { (n ≤ 65536) × (count ≤ 64) }
 {
-    let mut text = io::large_buffer();
-    mapping_in(&mut text[..n], messages, count)
+    let mut text = [0u8; MOST];
+    mapping_in(input, &mut text[..n], messages, count)
 }
 
 // A protocol item from its number on; and whether there may be more items.
-fn protocol_item() -> bool {
-    let n = number(LINE_END);
+fn protocol_item(rt: &impl Print, input: &mut impl Read) -> io::Result<bool> {
+    let n = number(input, LINE_END);
     if n > MOST {
-        return false;
+        return Ok(false);
     }
-    let r = protocol_of(n);
-    print_reading(r);
-    print_word(b"\n");
-    true
+    let r = protocol_of(input, n);
+    print_reading(rt, r)?;
+    print_word(rt, b"\n")?;
+    Ok(true)
 }
 
 // The mapping text of a judge item, where its protocol was accepted.
-fn judged(n: usize, t: Tables)
+fn judged(rt: &impl Print, input: &mut impl Read, n: usize, t: Tables) -> io::Result<()>
     requires { (n ≤ 65536) × TablesOk t }
 {
     let messages = t.messages;
-    let m = mapping_of(n, messages, t.message_count);
-    print_mapped(m, t.message_count);
+    let m = mapping_of(input, n, messages, t.message_count);
+    print_mapped(rt, m, t.message_count)
 }
 
 // Passes over the next n bytes.
-fn pass_over(n: usize)
+fn pass_over(input: &mut impl Read, n: usize)
     requires { n ≤ 65536 }
 {
-    let mut text = io::large_buffer();
-    io::read_full(0, &mut text[..n]);
+    let mut text = [0u8; MOST];
+    let _ = files::read_full(input, &mut text[..n]);
 }
 
 // A judge item from its first number on; and whether there may be more items.
-fn judge_item() -> bool {
-    let n = number(BLANK);
+fn judge_item(rt: &impl Print, input: &mut impl Read) -> io::Result<bool> {
+    let n = number(input, BLANK);
     if n > MOST {
-        return false;
+        return Ok(false);
     }
-    let m = number(LINE_END);
+    let m = number(input, LINE_END);
     if m > MOST {
-        return false;
+        return Ok(false);
     }
-    let r = protocol_of(n);
-    print_reading(r);
+    let r = protocol_of(input, n);
+    print_reading(rt, r)?;
     if r.refusal.number == 0 {
-        judged(m, r.tables);
+        judged(rt, input, m, r.tables)?;
     } else {
-        pass_over(m);
+        pass_over(input, m);
     }
-    print_word(b"\n");
-    true
+    print_word(rt, b"\n")?;
+    Ok(true)
 }
 
 // One item; and whether there may be more.
-fn item() -> bool {
-    let first = next_byte();
+fn item(rt: &impl Print, input: &mut impl Read) -> io::Result<bool> {
+    let first = next_byte(input);
     if first == 112 {
-        if goes_on_with(b"rotocol ") {
-            return protocol_item();
+        if goes_on_with(input, b"rotocol ") {
+            return protocol_item(rt, input);
         }
-        return false;
+        return Ok(false);
     }
     if first == 106 {
-        if goes_on_with(b"udge ") {
-            return judge_item();
+        if goes_on_with(input, b"udge ") {
+            return judge_item(rt, input);
         }
     }
-    false
+    Ok(false)
 }
 
 // A proved loop has to end, and nothing says that the input does. So the items are counted down, from a number that no
 // run uses up.
-fn main() {
+fn main(rt: HostRuntime) -> io::Result<()> {
+    let mut input = rt.stdin();
     let mut left = u64::MAX;
     while left > 0 {
-        if !item() {
-            return;
+        if !item(&rt, &mut input)? {
+            return Ok(());
         }
         left -= 1;
     }
+    Ok(())
 }

@@ -33,6 +33,7 @@
 ghost use Rattle.std.specs.Prelude.{◌*◌, ◌<◌, ◌≤◌, ◌≡◌, length};
 
 use relations::answer::RelationsAnswer;
+use std::io;
 
 // The state after a draw, which is also what it gives.
 fn draw(state: usize) -> usize
@@ -273,18 +274,16 @@ fn show(out: &mut [u8]) {
 }
 
 // A number, and a blank after it.
-fn print_number(number: usize) {
-    io::print_decimal(1, number as u64);
-    io::write_all(1, b" ");
+fn print_number(rt: &impl Print, number: usize) -> io::Result<()> {
+    print!(rt; "{number} ")
 }
 
 // The row joins of an accepted call.
-fn print_joins(number: u8, joins: usize) {
+fn print_joins(rt: &impl Print, number: u8, joins: usize) -> io::Result<()> {
     if number != 0 {
-        return;
+        return Ok(());
     }
-    io::write_all(1, b" joins ");
-    io::print_decimal(1, joins as u64);
+    print!(rt; " joins {joins}")
 }
 
 // The call in one of its forms.
@@ -302,18 +301,25 @@ fn call_form(
 }
 
 // Makes one call and prints its line.
-fn report(size: usize, n: usize, causes: &[u8], stalls: &[u8], out: &mut [u8]) {
+fn report(
+    rt: &impl Print,
+    size: usize,
+    n: usize,
+    causes: &[u8],
+    stalls: &[u8],
+    out: &mut [u8],
+) -> io::Result<()> {
     let answer = call_form(size, n, causes, stalls, out);
-    print_number(n);
-    print_number(answer.number as usize);
-    print_number(answer.length);
-    print_number(answer.networks);
-    print_number(answer.needed);
-    print_number(answer.pairs);
+    print_number(rt, n)?;
+    print_number(rt, answer.number as usize)?;
+    print_number(rt, answer.length)?;
+    print_number(rt, answer.networks)?;
+    print_number(rt, answer.needed)?;
+    print_number(rt, answer.pairs)?;
     show(out);
-    io::write_all(1, out);
-    print_joins(answer.number, answer.joins);
-    io::write_all(1, b"\n");
+    rt.write_all(out)?;
+    print_joins(rt, answer.number, answer.joins)?;
+    println!(rt;)
 }
 
 // The numbers that are given to the call.
@@ -387,7 +393,13 @@ fn add_stray(causes: &mut [u8; TABLE], form: Form, n: usize, fault: usize)
 }
 
 // Makes the call with the numbers given.
-fn call(size: usize, causes: [u8; TABLE], stalls: [u8; TABLE], given: Given)
+fn call(
+    rt: &impl Print,
+    size: usize,
+    causes: [u8; TABLE],
+    stalls: [u8; TABLE],
+    given: Given,
+) -> io::Result<()>
     requires { (given.causes ≤ 520) × (given.stalls ≤ 520) × (given.room ≤ 67) }
 {
     let mut out = [255u8; 67];
@@ -395,16 +407,24 @@ fn call(size: usize, causes: [u8; TABLE], stalls: [u8; TABLE], given: Given)
     let stalls_end = given.stalls;
     let room = given.room;
     report(
+        rt,
         size,
         given.n,
         &causes[..causes_end],
         &stalls[..stalls_end],
         &mut out[..room],
-    );
+    )
 }
 
 // One turn, with faults from a round on; gives the state after it.
-fn turn(form: Form, n: usize, round: usize, faulty: usize, state: usize) -> usize
+fn turn(
+    rt: &impl Print,
+    form: Form,
+    n: usize,
+    round: usize,
+    faulty: usize,
+    state: usize,
+) -> io::Result<usize>
     requires { (form.most ≤ 64) × (0 < n) × (n ≤ 64) × (round ≤ 75) }
 {
     let size = form.size;
@@ -413,36 +433,44 @@ fn turn(form: Form, n: usize, round: usize, faulty: usize, state: usize) -> usiz
     let related = relate(&mut causes, &mut stalls, size, n, round, state);
     let more = draw(related);
     if round < faulty {
-        call(size, causes, stalls, with_fault(form, n, n + more % 4, 0));
-        return more;
+        call(
+            rt,
+            size,
+            causes,
+            stalls,
+            with_fault(form, n, n + more % 4, 0),
+        )?;
+        return Ok(more);
     }
     let last = draw(more);
     add_stray(&mut causes, form, n, last % 8);
     call(
+        rt,
         size,
         causes,
         stalls,
         with_fault(form, n, n + more % 4, last % 8),
-    );
-    last
+    )?;
+    Ok(last)
 }
 
 // The turns of the first form; gives the state after them.
-fn first_turns() -> usize {
+fn first_turns(rt: &impl Print) -> io::Result<usize> {
     let mut state: usize = 1;
     let mut t: usize = 0;
     while t < 2400 {
-        state = turn(first_form(), t % 32 + 1, t / 32, 64, state);
+        state = turn(rt, first_form(), t % 32 + 1, t / 32, 64, state)?;
         t += 1;
     }
-    state
+    Ok(state)
 }
 
-fn main() {
-    let mut state: usize = first_turns();
+fn main(rt: HostRuntime) -> io::Result<()> {
+    let mut state: usize = first_turns(&rt)?;
     let mut t: usize = 0;
     while t < 1280 {
-        state = turn(second_form(), t % 64 + 1, t / 64, 16, state);
+        state = turn(&rt, second_form(), t % 64 + 1, t / 64, 16, state)?;
         t += 1;
     }
+    Ok(())
 }
