@@ -1,10 +1,11 @@
 // Every call that a host makes, and nothing else: each answers as the library does, its numbers packed into one.
+// The crate zeveltoren_c exports them to C.
 #![tactic(auto)]
+
 ghost use Rattle.zeveltoren.specs.Packed.{PackedRelations, PackedCheck, PackedPlan, PackedJudgement};
 
 // The relations call.
-#[unsafe(no_mangle)]
-pub extern "C" fn vn_relations(n: u64, causes: &[u8], stalls: &[u8], out: &mut [u8]) -> u64
+pub fn vn_relations(n: u64, causes: &[u8], stalls: &[u8], out: &mut [u8]) -> u64
     ensures { PackedRelations 4 32 n causes.now stalls.now out.old out.new result }
 {
     let told = relations::relations(n as usize, causes, stalls, out);
@@ -12,8 +13,7 @@ pub extern "C" fn vn_relations(n: u64, causes: &[u8], stalls: &[u8], out: &mut [
 }
 
 // The relations call in its second form: rows of 8 bytes, and up to 64 messages.
-#[unsafe(no_mangle)]
-pub extern "C" fn vn_relations64(n: u64, causes: &[u8], stalls: &[u8], out: &mut [u8]) -> u64
+pub fn vn_relations64(n: u64, causes: &[u8], stalls: &[u8], out: &mut [u8]) -> u64
     ensures { PackedRelations 8 64 n causes.now stalls.now out.old out.new result }
 {
     let told = relations::relations64(n as usize, causes, stalls, out);
@@ -21,8 +21,7 @@ pub extern "C" fn vn_relations64(n: u64, causes: &[u8], stalls: &[u8], out: &mut
 }
 
 // Whether a protocol text is accepted, and else the refusal's number and line.
-#[unsafe(no_mangle)]
-pub extern "C" fn vn_check_protocol(text: &[u8]) -> u64
+pub fn vn_check_protocol(text: &[u8]) -> u64
     ensures { PackedCheck text.now result }
 {
     let r = protocol::read_protocol(text);
@@ -31,8 +30,7 @@ pub extern "C" fn vn_check_protocol(text: &[u8]) -> u64
 }
 
 // The plan of a protocol text.
-#[unsafe(no_mangle)]
-pub extern "C" fn vn_plan_text(text: &[u8], out: &mut [u8]) -> u64
+pub fn vn_plan_text(text: &[u8], out: &mut [u8]) -> u64
     ensures { PackedPlan text.now out.old out.new result }
 {
     let planned = plan::plan(text, out);
@@ -40,8 +38,7 @@ pub extern "C" fn vn_plan_text(text: &[u8], out: &mut [u8]) -> u64
 }
 
 // The judgement of a mapping text for a protocol text.
-#[unsafe(no_mangle)]
-pub extern "C" fn vn_judge_texts(protocol: &[u8], mapping: &[u8], out: &mut [u8]) -> u64
+pub fn vn_judge_texts(protocol: &[u8], mapping: &[u8], out: &mut [u8]) -> u64
     ensures { PackedJudgement protocol.now mapping.now out.old out.new result }
 {
     let judged = judge::judge(protocol, mapping, out);
