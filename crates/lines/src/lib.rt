@@ -1,5 +1,6 @@
 // The words of one line of a protocol text.
 #![tactic(auto)]
+
 pub mod misplaced;
 pub mod next;
 pub mod shapes;
