@@ -1,5 +1,6 @@
 // What the calls on texts answer, and how a host gets it as one number.
 #![tactic(auto)]
+
 pub mod refused_text;
 
 ghost use Rattle.std.specs.Prelude.{◌≡◌};
