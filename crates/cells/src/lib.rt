@@ -1,5 +1,6 @@
 // A cell's line of a protocol text: how it is refused, and the cell it stands for.
 #![tactic(auto)]
+
 pub mod places;
 pub mod readings;
 pub mod shapes;

@@ -1,5 +1,6 @@
 // The judging call: a protocol text and a mapping text in, a listing out.
 #![tactic(auto)]
+
 pub mod program;
 
 ghost use Rattle.std.specs.Prelude.{◌<◌};

@@ -1,5 +1,6 @@
 // The listing of a judgement: the lines that both verdicts begin with, and the steps that an unfit mapping is shown by.
 #![tactic(auto)]
+
 pub mod fit;
 pub mod step_lines;
 

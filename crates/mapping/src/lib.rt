@@ -1,5 +1,6 @@
 // The mapping reader.
 #![tactic(auto)]
+
 pub mod lines;
 pub mod networks;
 

@@ -1,5 +1,6 @@
 // The planning call: a protocol text in, a listing out.
 #![tactic(auto)]
+
 pub mod program;
 
 ghost use Rattle.std.specs.Prelude.{◌<◌};

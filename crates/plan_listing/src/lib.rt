@@ -1,5 +1,6 @@
 // The listing of a plan: the lines that both classes begin with. Each line is written at the front of what is lent.
 #![tactic(auto)]
+
 pub mod cycle;
 pub mod maps;
 

@@ -1,5 +1,6 @@
 // The protocol reader: a text to tables, or a refusal.
 #![tactic(auto)]
+
 pub mod sections;
 pub mod whole;
 

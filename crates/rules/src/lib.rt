@@ -1,6 +1,7 @@
 // The numbers that the paper keeps apart. Message, network and state numbers all start at 0, and one has been read as another before:
 // each is a type of its own, and only `index` turns one into the place of a row.
 #![tactic(auto)]
+
 ghost use Rattle.std.specs.Prelude.{◌≡◌};
 
 // A message's number, in the order of the file.

@@ -1,5 +1,6 @@
 // What is found out about a protocol's tables: a plan, or the judgement of a mapping; and the plan itself.
 #![tactic(auto)]
+
 pub mod judgement;
 
 ghost use Rattle.std.specs.Prelude.{◌≡◌, map, ◌<◌, ◌≤◌};
