@@ -2,7 +2,7 @@
  * Zeveltoren: how many virtual networks does a coherence protocol need?
  *
  * The calls that a C program may make, on x86-64. They stand in one library:
- * `rt staticlib zeveltoren` writes target/staticlib/libzeveltoren.a, which is
+ * `host/build library` writes target/staticlib/libzeveltoren.a, which is
  * linked by -lzeveltoren. It keeps no state, takes no memory but the stack, and
  * calls nothing but memcpy and memset: a call may be made from any thread at
  * any time.
