@@ -84,7 +84,7 @@ returns-then-i-count c =
     let long : length a.messages ≡ 64 = search rules in
     c.refuse_at-then-i-count.ensures
     ∙ going-many gone a.most a.text.now a.from a.messages a.count l.at l.i l.networks l.invariant c.loop-at-test.true
-    (shaped (goal.at.returns-then-i-count c).In_default) c.requires.1 long (omega (arith, l.invariant.room, c.if-i-most.false)) c.if-i-count.true
+    (shaped (goal.at.returns-then-i-count c).In_default) c.requires.1 long (omega (arith, l.invariant.room)) c.if-i-count.true
 
 pub offset_bounds-messages-i : goal.offset_bounds-messages-i
 offset_bounds-messages-i c = omega (arith, c.loop-at.invariant.few, c.requires.1)
@@ -92,7 +92,7 @@ offset_bounds-messages-i c = omega (arith, c.loop-at.invariant.few, c.requires.1
 pub bounds-messages-i : goal.bounds-messages-i
 bounds-messages-i c =
     let long : length c.args.messages ≡ 64 = search rules in
-    omega (arith, c.loop-at.invariant.few, c.requires.1, c.if-i-count.false, long)
+    omega (arith, c.loop-at.invariant.few, c.requires.1, long)
 
 pub slice_bounds-map_line-count : goal.slice_bounds-map_line-count
 slice_bounds-map_line-count c = (found (goal.at.slice_bounds-map_line-count c).After-find-e).0
@@ -114,11 +114,11 @@ returns-then-line-ne0 c =
     let long : length a.messages ≡ 64 = search rules in
     c.refuse.ensures
     ∙ going-refused gone a.most a.text.now a.from a.messages a.count l.at l.i l.networks l.invariant c.loop-at-test.true
-    (shaped (goal.at.returns-then-line-ne0 c).In_default) c.requires.1 long (omega (arith, l.invariant.few, c.if-i-count.false))
-    c.map_line-line.result.refusal (t.told l.i (omega (arith, l.invariant.room, c.if-i-most.false))) c.if-line-ne0.true
+    (shaped (goal.at.returns-then-line-ne0 c).In_default) c.requires.1 long (omega (arith, l.invariant.few))
+    c.map_line-line.result.refusal (t.told l.i (omega (arith, l.invariant.room))) c.if-line-ne0.true
 
 pub bounds-networks-i : goal.bounds-networks-i
-bounds-networks-i c = omega (arith, c.loop-at.invariant.few, c.requires.1, c.if-i-count.false)
+bounds-networks-i c = omega (arith, c.loop-at.invariant.few, c.requires.1)
 
 pub overflow_add-at : goal.overflow_add-at
 overflow_add-at c = omega (arith, (found (goal.at.overflow_add-at c).After-find-e).1)
@@ -136,10 +136,10 @@ loop-at-preserved c =
     let m = c.map_line-line in
     let t = told (goal.at.loop-at-preserved c).After-map_line-line in
     let long : length a.messages ≡ 64 = search rules in
-    let room : l.i < a.most = omega (arith, l.invariant.room, c.if-i-most.false) in
+    let room : l.i < a.most = omega (arith, l.invariant.room) in
     subst (λ (e : ℕ). Going a.most a.text.now a.from a.messages a.count (e + 1) (l.i + 1) (set l.networks l.i m.result.network)) (sym c.find-e.ensures)
     (going_more gone a.most a.text.now a.from a.messages a.count l.at l.i l.networks l.invariant c.loop-at-test.true
-    (shaped (goal.at.loop-at-preserved c).In_default) c.requires.1 long (omega (arith, l.invariant.few, c.if-i-count.false)) room
+    (shaped (goal.at.loop-at-preserved c).In_default) c.requires.1 long (omega (arith, l.invariant.few)) room
     m.result.refusal (t.told l.i room) c.if-line-ne0.false m.result.network (t.network c.if-line-ne0.false))
 
 pub overflow_add-missing : goal.overflow_add-missing

@@ -43,4 +43,4 @@ returns-then-fields-ne3 c =
 pub returns : goal.returns
 returns c =
     shape_is (split 9 c.args.line.now) (sym (word (goal.at.returns c).After-same) ∙ c.if-not-same.false)
-    (count-whole c.args.line.now 3 (omega arith) (sym (ap (λ (r : Fields). r.count) c.fields_of-fields.ensures) ∙ c.if-fields-ne3.false))
+    (count-whole c.args.line.now 3 (omega arith) (omega (arith, ap (λ (r : Fields). r.count) c.fields_of-fields.ensures)))
