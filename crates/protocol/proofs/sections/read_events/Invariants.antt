@@ -1,0 +1,12 @@
+-- `protocol::sections::read_events` meets its contract.
+use Prim.Native.Nat.{◌-◌}
+use lib.ListN.{length}
+use Rattle.lines.specs.Line.{event}
+use Rattle.protocol.proofs.sections.Going.{Going}
+use Rattle.protocol.proofs.sections.read_events.Given as goal
+
+abbrev pub invariant-loop-at : goal.invariant-loop-at
+invariant-loop-at l = Going event l.text l.from l.first l.initial.t l.at l.line l.t
+
+abbrev pub decreases-loop-at : goal.decreases-loop-at
+decreases-loop-at l = length l.text - l.at
