@@ -9,7 +9,7 @@ use native.Mathlib.Nat.{add-zero}
 use lib.ListN.{length}
 use lib.Dec.{eqb}
 use borrow.Author.Tests.{eqb-true, eqb-false, not-true, ltb-true}
-use Rattle.text.specs.Parts.{split, lines}
+use Rattle.text.specs.Parts.{split}
 use Rattle.text.specs.Words.{protocol_header}
 use Rattle.papers.specs.declared.Refusal.{Refusal}
 use Rattle.papers.specs.Checks.{ToldBy, told, row}
