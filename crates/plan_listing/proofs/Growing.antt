@@ -8,7 +8,7 @@ use native.Mathlib.Nat.{le_refl}
 use native.Mathlib.Decide.{le_ind}
 use lib.ListN.{length, take, drop, length-append}
 use Rattle.text.specs.Written.{Wrote}
-use Rattle.text.proofs.Written.{part_room, pasted-part, more_room, then-more}
+use Rattle.text.proofs.Written.{pasted-part, more_room, then-more}
 
 -- a text that fits has room for its front
 pub front-room : (p q old : List ℕ) → length (p ++ q) ≤ length old → length p ≤ length old
@@ -17,13 +17,6 @@ front-room p q old h = omega (arith, length-append p q)
 -- ---- one part after another: p stands at the front of what was old, and q is to follow
 
 module _ (p q old new : List ℕ) (a : ℕ) (room : length (p ++ q) ≤ length old) (w : Wrote p old new a) where
-  -- the rest has room for q
-  pub rest-room : length q ≤ length (take (length new - a) (drop a new))
-  rest-room = part_room q new a (more_room p q old new a room w)
-
-  pub rest-start : a ≤ length new
-  rest-start = omega (arith, more_room p q old new a room w)
-
   -- q was written to the rest
   pub then-part : (ys : List ℕ) (b : ℕ) → Wrote q (take (length new - a) (drop a new)) ys b
       → Wrote (p ++ q) old (take a new ++ (ys ++ drop (length new - a) (drop a new))) (a + b)
@@ -31,29 +24,13 @@ module _ (p q old new : List ℕ) (a : ℕ) (room : length (p ++ q) ≤ length o
       then-more p q old new a room w (take a new ++ (ys ++ drop (length new - a) (drop a new))) (a + b)
       (pasted-part q new ys a b (more_room p q old new a room w) v)
 
-  -- the place behind both is within the output
-  pub then-end : (ys : List ℕ) (b : ℕ) → Wrote q (take (length new - a) (drop a new)) ys b → a + b ≤ length old
-  then-end ys b v = omega (arith, (then-part ys b v).count)
-
 -- the same where both together are r
 module _ (p q r old new : List ℕ) (a : ℕ) (e : r ≡ p ++ q) (room : length r ≤ length old) (w : Wrote p old new a) where
-  fits : length (p ++ q) ≤ length old
-  fits = omega (arith, ap length e)
-
-  pub next_start : a ≤ length new
-  next_start = rest-start p q old new a fits w
-
-  pub next-room : length q ≤ length (take (length new - a) (drop a new))
-  next-room = rest-room p q old new a fits w
-
-  pub next-end : (ys : List ℕ) (b : ℕ) → Wrote q (take (length new - a) (drop a new)) ys b → a + b ≤ length old
-  next-end = then-end p q old new a fits w
-
   pub next-put : (ys : List ℕ) (b : ℕ) → Wrote q (take (length new - a) (drop a new)) ys b
       → Wrote r old (take a new ++ (ys ++ drop (length new - a) (drop a new))) (a + b)
   next-put ys b v =
       subst (λ (l : List ℕ). Wrote l old (take a new ++ (ys ++ drop (length new - a) (drop a new))) (a + b)) (sym e)
-      (then-part p q old new a fits w ys b v)
+      (then-part p q old new a (omega (arith, ap length e)) w ys b v)
 
 -- ---- line by line: f i is the text of the first i lines, and line i is the one that follows them
 
