@@ -19,7 +19,7 @@ use Rattle.tables.specs.Cells.{number as message_number}
 use Rattle.plan_listing.specs.PlanText.{first_messages}
 use Rattle.judge_listing.specs.step_lines.StepLine.{word_of}
 use Rattle.judge_listing.specs.JudgeText.{ShownStep, step_of, steps_from, steps_around, word_in}
-use Rattle.judge_listing.specs.Places.{next_place_lem, step_at_lem}
+use Rattle.judge_listing.specs.Places.{GivenWalk, next_place_lem, step_at_lem}
 
 -- ---- the messages of the walk
 
@@ -30,6 +30,10 @@ first-length n l h = length-map (take n l) message_number ∙ length-take-le n l
 pub first-at : (n : ℕ) (l : List Message) (i : ℕ) → i < n → get_or (first_messages n l) i 0 ≡ message_number (get_or l i (record { 0 = 0 }))
 unfolding first_messages
 first-at n l i h = get_or-map message_number (take n l) i (record { 0 = 0 }) ∙ ap message_number (get_or-take n l i (record { 0 = 0 }) h)
+
+-- the walk has as many messages as are counted
+pub walk-long : (count : ℕ) (cycle : List Message) → GivenWalk count cycle → length cycle ≡ 64 → length (first_messages count cycle) ≡ count
+walk-long count cycle g long = first-length count cycle (omega (arith, g.few))
 
 -- ---- the place after one
 

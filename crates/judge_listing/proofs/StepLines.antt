@@ -14,7 +14,7 @@ use Rattle.rows.specs.Rows.{Bit}
 use Rattle.text.specs.Name.{name_text}
 use Rattle.text.specs.Words.{unfit_word}
 use Rattle.text.specs.Written.{Wrote, Pasted}
-use Rattle.text.proofs.Written.{pasted-part, pasted_length, next-room, pasted-next}
+use Rattle.text.proofs.Written.{pasted-part, next-room, pasted-next}
 use Rattle.tables.specs.declared.MessageRow.{MessageRow}
 use Rattle.tables.specs.Tables.{no_message_row}
 use Rattle.text.proofs.Parts.{get_or-within}
@@ -85,11 +85,6 @@ module _ (rows : List MessageRow) (w : MessageNo → MessageNo → Word) (l : Li
   fewer-lines i =
       let e = ap length (ap (step_texts rows) (sym (take-append-drop i (steps_around w l))) ∙ texts-append rows (take i (steps_around w l)) (drop i (steps_around w l))) in
       omega (arith, e, length-append (first_lines i) (step_texts rows (drop i (steps_around w l))))
-
-  -- the lines are written into a buffer, which keeps its length
-  pub lines-kept : (old out : List ℕ) (start at i : ℕ) → start + length (step_texts rows (steps_around w l)) ≤ length old
-      → Pasted (first_lines i) start old out at → length out ≡ length old
-  lines-kept old out start at i room v = pasted_length (first_lines i) old out start at (omega (arith, fewer-lines i)) v
 
   module _ (i : ℕ) (h : i < length l) (line : List ℕ) (e : line ≡ step_text rows (step_at_lem w l i)) where
     -- one line more
