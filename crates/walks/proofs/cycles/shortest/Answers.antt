@@ -1,7 +1,5 @@
 -- `walks::cycles::shortest` meets its contract.
 use native.Mathlib.Omega.{arith}
-use borrow.Author.Tests.{not-true, not-false}
-use Rattle.rows.specs.Rows.{Bit}
 use Rattle.rows.proofs.Told.{told-false}
 use Rattle.walks.proofs.cycles.Opening.{short-off, short-start, front_below, short-empty, short-full, short-step, short-found}
 use Rattle.walks.proofs.cycles.shortest.Goals as goal
@@ -18,17 +16,15 @@ loop-n-init c =
 
 pub returns-then-set-eq0 : goal.returns-then-set-eq0
 returns-then-set-eq0 c =
-    let apart : ¬ Bit c.loop-n.set c.args.x = let h = c.has in told-false _ h.result h.ensures (not-true h.result c.loop-n-test.true-raw) in
     let a = c.args in
     let l = c.loop-n in
-    short-empty a.w.now a.s.now a.n a.x a.most l.set l.k l.invariant apart c.if-set-eq0.true
+    short-empty a.w.now a.s.now a.n a.x a.most l.set l.k l.invariant (told-false _ c.has.result c.has.ensures c.loop-n-test.true) c.if-set-eq0.true
 
 pub returns-then-k-most : goal.returns-then-k-most
 returns-then-k-most c =
-    let apart : ¬ Bit c.loop-n.set c.args.x = let h = c.has in told-false _ h.result h.ensures (not-true h.result c.loop-n-test.true-raw) in
     let a = c.args in
     let l = c.loop-n in
-    short-full a.w.now a.s.now a.n a.x a.most l.set l.k l.invariant apart c.if-k-most.true
+    short-full a.w.now a.s.now a.n a.x a.most l.set l.k l.invariant (told-false _ c.has.result c.has.ensures c.loop-n-test.true) c.if-k-most.true
 
 pub after-set-requires : goal.after-set-requires
 after-set-requires c =
@@ -38,14 +34,12 @@ after-set-requires c =
 
 pub loop-n-preserved : goal.loop-n-preserved
 loop-n-preserved c =
-    let apart : ¬ Bit c.loop-n.set c.args.x = let h = c.has in told-false _ h.result h.ensures (not-true h.result c.loop-n-test.true-raw) in
     let a = c.args in
     let l = c.loop-n in
-    short-step a.w.now a.s.now a.n a.x a.most l.set l.k l.invariant apart c.after-set.result c.if-k-most.false c.after-set.ensures
+    short-step a.w.now a.s.now a.n a.x a.most l.set l.k l.invariant (told-false _ c.has.result c.has.ensures c.loop-n-test.true) c.after-set.result c.if-k-most.false c.after-set.ensures
 
 pub returns : goal.returns
 returns c =
     let a = c.args in
     let l = c.loop-n in
-    let h = c.has in
-    short-found a.w.now a.s.now a.n a.x a.most l.set l.k l.invariant (h.ensures.0 (not-false h.result c.loop-n-test.false-raw))
+    short-found a.w.now a.s.now a.n a.x a.most l.set l.k l.invariant (c.has.ensures.0 c.loop-n-test.false)
