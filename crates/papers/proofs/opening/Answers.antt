@@ -11,16 +11,16 @@ use Rattle.papers.proofs.OpeningLaws.{too_big, empty, no_end, wrong-line, right-
 use Rattle.papers.proofs.opening.Goals as goal
 
 pub returns-then-n-gt-MOST_BYTES : goal.returns-then-n-gt-MOST_BYTES
-returns-then-n-gt-MOST_BYTES c = sym (too_big c.args.header.now c.args.text.now (omega arith))
+returns-then-n-gt-MOST_BYTES c = c.whole.ensures ∙ sym (too_big c.args.header.now c.args.text.now (omega arith))
 
 pub returns-then-n-eq0 : goal.returns-then-n-eq0
-returns-then-n-eq0 c = sym (empty c.args.header.now c.args.text.now (omega arith))
+returns-then-n-eq0 c = c.whole-then-n-eq0.ensures ∙ sym (empty c.args.header.now c.args.text.now (omega arith))
 
-pub overflow_add-result : goal.overflow_add-result
-overflow_add-result c = omega (arith, many-le 10 c.args.text.now, c.count.ensures)
+pub overflow_add-count : goal.overflow_add-count
+overflow_add-count c = omega (arith, many-le 10 c.args.text.now, c.count.ensures)
 
 pub returns-then-text-n-ne10 : goal.returns-then-text-n-ne10
-returns-then-text-n-ne10 c = rw c.count.ensures (sym (no_end c.args.header.now c.args.text.now (omega arith) (omega arith) c.if-text-n-ne10.true))
+returns-then-text-n-ne10 c = c.whole-then-text-n-ne10.ensures ∙ rw c.count.ensures (sym (no_end c.args.header.now c.args.text.now (omega arith) (omega arith) c.if-text-n-ne10.true))
 
 pub slice_bounds-same-end : goal.slice_bounds-same-end
 slice_bounds-same-end c =
@@ -31,7 +31,7 @@ pub returns-then-not-same : goal.returns-then-not-same
 returns-then-not-same c =
     let text = c.args.text.now in
     let header = c.args.header.now in
-    sym (wrong-line header text (omega arith) (omega arith) c.if-text-n-ne10.false
+    c.whole-then-not-same.ensures ∙ sym (wrong-line header text (omega arith) (omega arith) c.if-text-n-ne10.false
     (ap (λ (e : ℕ). is_same_text (take e text) header) (sym c.find-e.ensures) ∙ sym c.same.ensures ∙ not-true c.same.result c.if-not-same.true-raw))
 
 pub returns : goal.returns
