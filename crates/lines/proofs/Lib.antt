@@ -1,5 +1,4 @@
 pub mod Both
-pub mod Fields
 pub mod Reasons
 pub mod Sections
 pub mod Under

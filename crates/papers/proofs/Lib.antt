@@ -4,4 +4,5 @@ pub mod Walk
 pub mod OpeningLaws
 pub mod Determined
 pub mod WholeLine
+pub mod Recorded
 pub mod Joined

@@ -1,4 +1,5 @@
 pub mod Checks
+pub mod records
 pub mod refused
 pub mod Fields
 pub mod Opening

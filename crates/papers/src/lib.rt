@@ -1,6 +1,7 @@
 // What every paper has in common: it is not too big, its last line ends, and it begins with its header.
 #![tactic(auto)]
 
+pub mod records;
 pub mod refused;
 
 ghost use Rattle.std.specs.Prelude.{◌≡◌};

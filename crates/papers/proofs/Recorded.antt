@@ -11,7 +11,7 @@ use Rattle.text.specs.Parts.{split}
 use Rattle.text.specs.Fields.{fields_of, line_fields_lem}
 use Rattle.text.proofs.FieldLaws.{FieldAt, field_at, count-few, count-full, count-le, count-some}
 use Rattle.text.specs.Line.{field}
-use Rattle.lines.specs.Told.{FieldsAre}
+use Rattle.papers.specs.records.FieldsAre.{FieldsAre}
 
 module _ (line : List ℕ) (f : Fields) (are : FieldsAre line f) where
   pub few : f.count ≤ 15
