@@ -4,7 +4,7 @@ use Rattle.determined.specs.Determined.{Determines}
 use Rattle.determined.proofs.Equal.{equal}
 use Rattle.tables.specs.declared.Cell.{Cell}
 use Rattle.tables.specs.declared.Tables.{Tables}
-use Rattle.tables.specs.Tables.{no_cell_lem, cleared_tables}
+use Rattle.tables.specs.Tables.{no_cell_lem, cleared_tables, messages_of_lem, events_of, states_of, stored_of}
 use Prim.Native.Nat.{ℕ}
 use mathlib.Core.Bool.{Bool}
 use mathlib.Core.List.{List}
@@ -25,6 +25,18 @@ no-cell-determined = equal _
 
 pub cleared-determined : Determines (λ (r : Tables). r ≡ cleared_tables)
 cleared-determined = equal _
+
+pub messages-determined : (t : Tables) → Determines (λ (r : List MessageRow). r ≡ messages_of_lem t)
+messages-determined t = equal _
+
+pub events-determined : (t : Tables) → Determines (λ (r : List EventRow). r ≡ events_of t)
+events-determined t = equal _
+
+pub states-determined : (t : Tables) → Determines (λ (r : List StateRow). r ≡ states_of t)
+states-determined t = equal _
+
+pub cells-determined : (t : Tables) → Determines (λ (r : List Cell). r ≡ stored_of t)
+cells-determined t = equal _
 
 pub any-clash-determined : (cells : List Cell) (n : ℕ) (c : Cell) → Determines (λ (r : Bool). r ≡ any_clash_lem c (take n cells))
 any-clash-determined cells n c = equal _

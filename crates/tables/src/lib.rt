@@ -4,7 +4,7 @@
 pub mod conflicts;
 pub mod names;
 
-ghost use Rattle.std.specs.Prelude.{◌≡◌};
+ghost use Rattle.std.specs.Prelude.{◌≡◌, ◌≤◌};
 ghost use Rattle.tables.specs.Tables.{no_cell_lem, cleared_tables};
 
 use rules::{Event, Message, State};
@@ -87,6 +87,7 @@ pub struct StateRow {
 }
 
 // All there is to know of a protocol. What is past a count is as cleared.
+// Arrays of full size with a count beside each: the tables are in fixed memory, with no heap. Read them through the slices below.
 #[derive(Clone, Copy)]
 pub struct Tables {
     pub messages: [MessageRow; MESSAGES],
@@ -97,6 +98,42 @@ pub struct Tables {
     pub event_count: usize,
     pub state_count: usize,
     pub cell_count: usize,
+}
+
+impl Tables {
+    ghost use Rattle.tables.specs.Tables.{messages_of_lem, events_of, states_of, stored_of};
+
+    // The messages that are declared, in the order of the file.
+    pub fn messages(&self) -> &[MessageRow]
+        requires { self.now.message_count ≤ 64 }
+        ensures { result.now ≡ messages_of_lem self.now }
+    {
+        &self.messages[..self.message_count]
+    }
+
+    // The events that are declared.
+    pub fn events(&self) -> &[EventRow]
+        requires { self.now.event_count ≤ 8 }
+        ensures { result.now ≡ events_of self.now }
+    {
+        &self.events[..self.event_count]
+    }
+
+    // The states that are declared, of both controllers.
+    pub fn states(&self) -> &[StateRow]
+        requires { self.now.state_count ≤ 64 }
+        ensures { result.now ≡ states_of self.now }
+    {
+        &self.states[..self.state_count]
+    }
+
+    // The cells that are stored.
+    pub fn cells(&self) -> &[Cell]
+        requires { self.now.cell_count ≤ 512 }
+        ensures { result.now ≡ stored_of self.now }
+    {
+        &self.cells[..self.cell_count]
+    }
 }
 
 // The cell that tables are cleared to.
