@@ -8,17 +8,18 @@ use Rattle.tables.specs.Tables.{no_cell_lem, cleared_tables, messages_of_lem, ev
 use Prim.Native.Nat.{ℕ}
 use mathlib.Core.Bool.{Bool}
 use mathlib.Core.List.{List}
-use lib.ListN.{take}
+use lib.ListN.{take, length}
 use Rattle.tables.specs.Clash.{any_clash_lem}
 use Rattle.text.specs.Parts.{first_index}
 use Rattle.tables.specs.declared.MessageRow.{MessageRow}
 use Rattle.tables.specs.declared.EventRow.{EventRow}
-use Rattle.tables.specs.declared.names.FoundMessage.{FoundMessage}
-use Rattle.tables.specs.declared.names.FoundEvent.{FoundEvent}
+use Rattle.std.specs.Prelude.{Option}
+use Rattle.rules.specs.declared.Message.{Message}
+use Rattle.rules.specs.declared.Event.{Event}
+use Rattle.rules.specs.declared.State.{State}
 use Rattle.tables.specs.names.Names.{message_named_lem, event_named_lem, found_message, found_event, state_named_lem, found_state}
 use Rattle.tables.specs.declared.Controller.{Controller}
 use Rattle.tables.specs.declared.StateRow.{StateRow}
-use Rattle.tables.specs.declared.names.FoundState.{FoundState}
 
 pub no-cell-determined : Determines (λ (r : Cell). r ≡ no_cell_lem)
 no-cell-determined = equal _
@@ -41,11 +42,11 @@ cells-determined t = equal _
 pub any-clash-determined : (cells : List Cell) (n : ℕ) (c : Cell) → Determines (λ (r : Bool). r ≡ any_clash_lem c (take n cells))
 any-clash-determined cells n c = equal _
 
-pub message-named-determined : (rows : List MessageRow) (n : ℕ) (x : List ℕ) → Determines (λ (r : FoundMessage). r ≡ found_message (first_index (message_named_lem x) (take n rows)) n)
-message-named-determined rows n x = equal _
+pub message-named-determined : (rows : List MessageRow) (x : List ℕ) → Determines (λ (r : Option Message). r ≡ found_message (first_index (message_named_lem x) rows) (length rows))
+message-named-determined rows x = equal _
 
-pub event-named-determined : (rows : List EventRow) (n : ℕ) (x : List ℕ) → Determines (λ (r : FoundEvent). r ≡ found_event (first_index (event_named_lem x) (take n rows)) n)
-event-named-determined rows n x = equal _
+pub event-named-determined : (rows : List EventRow) (x : List ℕ) → Determines (λ (r : Option Event). r ≡ found_event (first_index (event_named_lem x) rows) (length rows))
+event-named-determined rows x = equal _
 
-pub state-named-determined : (rows : List StateRow) (n : ℕ) (c : Controller) (x : List ℕ) → Determines (λ (r : FoundState). r ≡ found_state (first_index (state_named_lem c x) (take n rows)) n)
-state-named-determined rows n c x = equal _
+pub state-named-determined : (rows : List StateRow) (c : Controller) (x : List ℕ) → Determines (λ (r : Option State). r ≡ found_state (first_index (state_named_lem c x) rows) (length rows))
+state-named-determined rows c x = equal _

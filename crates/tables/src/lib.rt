@@ -31,7 +31,7 @@ pub enum Kind {
 }
 
 // Whose state a state is.
-#[derive(Clone, Copy)]
+#[derive(Clone, Copy, PartialEq, Eq)]
 pub enum Controller {
     Cache,
     Dir,

@@ -5,7 +5,7 @@ use mathlib.Core.List.{List, []}
 use Prim.Native.Nat.{ℕ, suc, ◌≤◌, ◌<◌}
 use native.Mathlib.Omega.{arith}
 use lib.ListN.{length, take, get_or, length-take}
-use lib.Seq.{get_or-take}
+use lib.Seq.{get_or-take, take_all}
 use lib.Dec.{ltb}
 use borrow.Author.Tests.{lt-ltb, le-ltb, ltb-true, ltb-false}
 use Rattle.rules.specs.declared.Message.{Message}
@@ -20,13 +20,9 @@ use Rattle.tables.specs.declared.EventRow.{EventRow}
 use Rattle.tables.specs.declared.StateRow.{StateRow}
 use Rattle.text.specs.Parts.{first_index}
 use Rattle.text.proofs.Parts.{first-at, first-none, first-before, first_passes}
-use Rattle.tables.specs.declared.names.FoundMessage.{FoundMessage}
-use Rattle.tables.specs.declared.names.FoundMessage.TheVariants.{At as MessageAt, Nothing as NoMessage}
-use Rattle.tables.specs.declared.names.FoundEvent.{FoundEvent}
-use Rattle.tables.specs.declared.names.FoundEvent.TheVariants.{At as EventAt, Nothing as NoEvent}
-use Rattle.tables.specs.declared.names.FoundState.{FoundState}
-use Rattle.tables.specs.declared.names.FoundState.TheVariants.{At as StateAt, Nothing as NoState}
-use Rattle.tables.specs.names.Names.{found_message, found_event, found_state}
+use Rattle.std.specs.Prelude.{Option, Some, None}
+use Rattle.std.proofs.lemmas.Option.{none-some, same_Some}
+use Rattle.tables.specs.names.Names.{found, found_message, found_event, found_state}
 
 -- what an array of rows is read as past its end
 abbrev pub blank_name : Name
@@ -49,16 +45,6 @@ module _ {A : Type 0} (p : A → Bool) (rows : List A) (n : ℕ) (d : A) where
     pub before : (j : ℕ) → j < i → p (get_or rows j d) ≡ false
 
   module _ (long : n ≤ length rows) where
-    -- the search ends where a row passes
-    pub found_here : {F : Type 0} (at : ℕ → F) (none : F) (i : ℕ) → First i
-        → at i ≡ cond (ltb (first_index p (take n rows)) n) (at (first_index p (take n rows))) none
-    found_here at none i h = rw (first-at p rows n i d h.within long h.before h.passes, lt-ltb i n h.within)
-
-    -- the search ends with no row that passes
-    pub found_none : {F : Type 0} (at : ℕ → F) (none : F) → ((j : ℕ) → j < n → p (get_or rows j d) ≡ false)
-        → none ≡ cond (ltb (first_index p (take n rows)) n) (at (first_index p (take n rows))) none
-    found_none at none h = rw (first-none p rows n d long h, le-ltb n n (omega arith))
-
     all : length (take n rows) ≡ n
     all = omega (arith, length-take n rows)
 
@@ -72,50 +58,37 @@ module _ {A : Type 0} (p : A → Bool) (rows : List A) (n : ℕ) (d : A) where
           before = λ j g. ap p (sym (get_or-take n rows j d (omega arith))) ∙ first-before p (take n rows) d j g;
         }
 
+-- ---- a search through all the rows
+
+module _ {A : Type 0} (p : A → Bool) (rows : List A) (d : A) {B : Type 0} (at : ℕ → B) where
+  all_rows : take (length rows) rows ≡ rows
+  all_rows = take_all (length rows) rows (omega arith)
+
+  -- it ends where a row passes
+  pub found_here : (i : ℕ) → First p rows (length rows) d i → Some (at i) ≡ found at (first_index p rows) (length rows)
+  found_here i h =
+      let e : first_index p rows ≡ i = ap (first_index p) (sym all_rows) ∙ first-at p rows (length rows) i d h.within (omega arith) h.before h.passes in
+      rw (e, lt-ltb i (length rows) h.within)
+
+  -- it ends with no row that passes
+  pub found_none : ((j : ℕ) → j < length rows → p (get_or rows j d) ≡ false) → None ≡ found at (first_index p rows) (length rows)
+  found_none h =
+      let e : first_index p rows ≡ length rows = ap (first_index p) (sym all_rows) ∙ first-none p rows (length rows) d (omega arith) h in
+      rw (e, le-ltb (length rows) (length rows) (omega arith))
+
 -- ---- what an answer tells
 
--- `back` reads an answer's place: one more than it, and 0 where there is none
-module _ {F : Type 0} (back : F → ℕ) (at : ℕ → F) (none : F) (some : (i : ℕ) → back (at i) ≡ suc i) (nothing : back none ≡ 0) where
-  told_at : (i n k : ℕ) (x : F) → back x ≡ suc k → cond (ltb i n) (at i) none ≡ x → (i < n) × (k ≡ i)
-  told_at i n k x b e = go (ltb i n) refl
+module _ {A : Type 0} (at : ℕ → A) (i n : ℕ) where
+  pub found_at : (x : A) → found at i n ≡ Some x → (i < n) × (x ≡ at i)
+  found_at x e = go (ltb i n) refl
     where
-      go : (t : Bool) → ltb i n ≡ t → (i < n) × (k ≡ i)
-      go true q = let z = ap back (ap (λ (t : Bool). cond t (at i) none) (sym q) ∙ e) in (ltb-true i n q, omega (arith, some i))
-      go false q = let z = ap back (ap (λ (t : Bool). cond t (at i) none) (sym q) ∙ e) in absurd (omega arith)
+      go : (t : Bool) → ltb i n ≡ t → (i < n) × (x ≡ at i)
+      go true q = (ltb-true i n q, same_Some x (at i) (sym e ∙ ap (λ (t : Bool). cond t (Some (at i)) None) q))
+      go false q = absurd (none-some x (sym (ap (λ (t : Bool). cond t (Some (at i)) None) q) ∙ e))
 
-  told_none : (i n : ℕ) (x : F) → back x ≡ 0 → cond (ltb i n) (at i) none ≡ x → n ≤ i
-  told_none i n x b e = go (ltb i n) refl
+  pub found_nothing : found at i n ≡ None → n ≤ i
+  found_nothing e = go (ltb i n) refl
     where
       go : (t : Bool) → ltb i n ≡ t → n ≤ i
-      go true q = let z = ap back (ap (λ (t : Bool). cond t (at i) none) (sym q) ∙ e) in absurd (omega (arith, some i))
+      go true q = absurd (none-some (at i) (sym e ∙ ap (λ (t : Bool). cond t (Some (at i)) None) q))
       go false q = ltb-false i n q
-
-abbrev message_place : FoundMessage → ℕ
-message_place (MessageAt m) = suc m.0
-message_place NoMessage = 0
-
-abbrev event_place : FoundEvent → ℕ
-event_place (EventAt m) = suc m.0
-event_place NoEvent = 0
-
-abbrev state_place : FoundState → ℕ
-state_place (StateAt m) = suc m.0
-state_place NoState = 0
-
-pub message-at : (i n : ℕ) (m : Message) → found_message i n ≡ MessageAt m → (i < n) × (m.0 ≡ i)
-message-at i n m = told_at message_place (λ j. MessageAt (record { 0 = j })) NoMessage (λ j. refl) refl i n m.0 (MessageAt m) refl
-
-pub message-none : (i n : ℕ) → found_message i n ≡ NoMessage → n ≤ i
-message-none i n = told_none message_place (λ j. MessageAt (record { 0 = j })) NoMessage (λ j. refl) refl i n NoMessage refl
-
-pub event-at : (i n : ℕ) (m : Event) → found_event i n ≡ EventAt m → (i < n) × (m.0 ≡ i)
-event-at i n m = told_at event_place (λ j. EventAt (record { 0 = j })) NoEvent (λ j. refl) refl i n m.0 (EventAt m) refl
-
-pub event-none : (i n : ℕ) → found_event i n ≡ NoEvent → n ≤ i
-event-none i n = told_none event_place (λ j. EventAt (record { 0 = j })) NoEvent (λ j. refl) refl i n NoEvent refl
-
-pub state-at : (i n : ℕ) (m : State) → found_state i n ≡ StateAt m → (i < n) × (m.0 ≡ i)
-state-at i n m = told_at state_place (λ j. StateAt (record { 0 = j })) NoState (λ j. refl) refl i n m.0 (StateAt m) refl
-
-pub state-none : (i n : ℕ) → found_state i n ≡ NoState → n ≤ i
-state-none i n = told_none state_place (λ j. StateAt (record { 0 = j })) NoState (λ j. refl) refl i n NoState refl

@@ -1,5 +1,9 @@
 -- Names in the tables: which row has one.
-use Rattle.std.specs.Prelude.{ℕ, Bool, true, false, ◌&&◌, cond, List, ltb}
+use Rattle.std.specs.Prelude.{ℕ, Bool, true, false, ◌&&◌, cond, List, ltb, Option, Some, None}
+use Rattle.rules.specs.declared.Message.{Message}
+use Rattle.rules.specs.declared.Event.{Event}
+use Rattle.rules.specs.declared.State.{State}
+use Rattle.rules.specs.Numbers.{as_message}
 use Rattle.text.specs.Parts.{is_same_text, first_index}
 use Rattle.text.specs.Name.{name_text}
 use Rattle.tables.specs.declared.Controller.{Controller}
@@ -9,12 +13,6 @@ use Rattle.tables.specs.declared.EventRow.{EventRow}
 use Rattle.tables.specs.declared.StateRow.{StateRow}
 use Rattle.tables.specs.declared.Tables.{Tables}
 use Rattle.tables.specs.Tables.{messages_of_lem, events_of, states_of}
-use Rattle.tables.specs.declared.names.FoundMessage.{FoundMessage}
-use Rattle.tables.specs.declared.names.FoundMessage.TheVariants.{At as MessageAt, Nothing as NoMessage}
-use Rattle.tables.specs.declared.names.FoundEvent.{FoundEvent}
-use Rattle.tables.specs.declared.names.FoundEvent.TheVariants.{At as EventAt, Nothing as NoEvent}
-use Rattle.tables.specs.declared.names.FoundState.{FoundState}
-use Rattle.tables.specs.declared.names.FoundState.TheVariants.{At as StateAt, Nothing as NoState}
 
 -- The row has this name.
 abbrev pub message_named_lem : List ℕ → MessageRow → Bool
@@ -54,11 +52,14 @@ abbrev pub is_state_name : Tables → Controller → List ℕ → Bool
 is_state_name t c x = ltb (state_at t c x) t.state_count
 
 -- What a search that ended at place i of n has found: the first row of that name, or nothing.
-abbrev pub found_message : ℕ → ℕ → FoundMessage
-found_message i n = cond (ltb i n) (MessageAt (record { 0 = i })) NoMessage
+abbrev pub found : {A : Type 0} → (ℕ → A) → ℕ → ℕ → Option A
+found at i n = cond (ltb i n) (Some (at i)) None
 
-abbrev pub found_event : ℕ → ℕ → FoundEvent
-found_event i n = cond (ltb i n) (EventAt (record { 0 = i })) NoEvent
+abbrev pub found_message : ℕ → ℕ → Option Message
+found_message i n = found as_message i n
 
-abbrev pub found_state : ℕ → ℕ → FoundState
-found_state i n = cond (ltb i n) (StateAt (record { 0 = i })) NoState
+abbrev pub found_event : ℕ → ℕ → Option Event
+found_event i n = found (λ j. record { 0 = j }) i n
+
+abbrev pub found_state : ℕ → ℕ → Option State
+found_state i n = found (λ j. record { 0 = j }) i n

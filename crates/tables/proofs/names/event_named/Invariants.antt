@@ -1,14 +1,11 @@
 -- `tables::names::event_named` meets its contract.
 use mathlib.Core.Path.{◌≡◌}
 use mathlib.Core.Bool.{false}
-use Prim.Native.Nat.{ℕ, ◌≤◌, ◌<◌, ◌-◌}
+use Prim.Native.Nat.{ℕ, ◌<◌}
 use lib.ListN.{get_or}
 use Rattle.tables.specs.names.Names.{event_named_lem}
 use Rattle.tables.proofs.names.Look.{blank_event}
 use Rattle.tables.proofs.names.event_named.Given as goal
 
 abbrev pub invariant-loop-i : goal.invariant-loop-i
-invariant-loop-i l = (l.i ≤ l.count) × ((j : ℕ) → j < l.i → event_named_lem l.part (get_or l.events j blank_event) ≡ false)
-
-abbrev pub decreases-loop-i : goal.decreases-loop-i
-decreases-loop-i l = l.count - l.i
+invariant-loop-i l = (j : ℕ) → j < l.i → event_named_lem l.part (get_or l.events j blank_event) ≡ false

@@ -1,25 +1,22 @@
 -- `tables::names::message_named` meets its contract.
-use Rattle.tables.specs.declared.names.FoundMessage.TheVariants.{At as MessageAt, Nothing as NoMessage}
 use mathlib.Core.Path.{sym, ◌∙◌}
 use native.Mathlib.Omega.{arith}
-use borrow.Author.Rules.{rules}
 use borrow.Author.Count.{below_more}
+use Rattle.rules.specs.Numbers.{as_message}
 use Rattle.tables.specs.names.Names.{message_named_lem}
 use Rattle.tables.proofs.names.Look.{blank_message, found_here, found_none}
 use Rattle.tables.proofs.names.message_named.Goals as goal
 
 pub loop-i-init : goal.loop-i-init
-loop-i-init c = (search rules, λ j h. absurd (omega arith))
+loop-i-init c = λ j h. absurd (omega arith)
 
 pub returns-then-named : goal.returns-then-named
 returns-then-named c =
-    found_here (message_named_lem c.args.part.now) c.args.messages c.args.count blank_message (omega arith) (λ j. MessageAt (record { 0 = j })) NoMessage c.loop-i.i
-    (record { within = omega arith; passes = sym c.named.ensures ∙ c.if-named.true; before = c.loop-i.invariant.1 })
+    found_here (message_named_lem c.args.part.now) c.args.messages.now blank_message as_message c.loop-i.i
+    (record { within = omega arith; passes = sym c.named.ensures ∙ c.if-named.true; before = c.loop-i.invariant })
 
 pub loop-i-preserved : goal.loop-i-preserved
-loop-i-preserved c = (omega arith, below_more _ _ c.loop-i.invariant.1 (sym c.named.ensures ∙ c.if-named.false))
+loop-i-preserved c = below_more _ _ c.loop-i.invariant (sym c.named.ensures ∙ c.if-named.false)
 
 pub returns : goal.returns
-returns c =
-    found_none (message_named_lem c.args.part.now) c.args.messages c.args.count blank_message (omega arith) (λ j. MessageAt (record { 0 = j })) NoMessage
-    (λ j h. c.loop-i.invariant.1 j (omega arith))
+returns c = found_none (message_named_lem c.args.part.now) c.args.messages.now blank_message as_message (λ j h. c.loop-i.invariant j (omega arith))
