@@ -1,8 +1,13 @@
 -- Each contract of this crate leaves one answer.
 use Prim.Native.Nat.{ℕ}
-use mathlib.Core.Path.{◌≡◌, refl, sym, ap, ◌∙◌, subst}
-use mathlib.Core.Bool.{Bool, true, false}
+use mathlib.Core.Path.{◌≡◌, refl, sym, ap, ◌∙◌}
+use mathlib.Core.Bool.{true, false}
 use mathlib.Core.List.{List, []}
+use Rattle.std.specs.Prelude.{Option, Result, ⊤}
+use Rattle.papers.specs.declared.refused.Field.{Field}
+use Rattle.tables.specs.declared.Kind.{Kind}
+use Rattle.tables.specs.declared.Controller.{Controller}
+use Rattle.tables.specs.declared.Stability.{Stability}
 use Rattle.determined.specs.Determined.{Determines}
 use Rattle.determined.proofs.Equal.{equal}
 use Rattle.text.specs.Parts.{split, part}
@@ -12,53 +17,36 @@ use Rattle.tables.proofs.Given.{given}
 use Rattle.lines.proofs.Sections.{not_in}
 use Rattle.text.specs.Line.{field, says}
 use Rattle.lines.specs.Line.{Section, message, event, state, cell, unknown, section_of}
-use Rattle.lines.specs.declared.shapes.MessageWords.{MessageWords}
 use Rattle.lines.specs.words.Found.{found_controller}
-use Rattle.lines.specs.declared.words.FoundController.{FoundController}
-use Rattle.lines.specs.Checks.{shaped, later_read}
-use Rattle.lines.specs.declared.shapes.StateWords.{StateWords}
-use Rattle.lines.specs.shapes.Shapes.{message_shape_lem, state_shape_lem}
+use Rattle.lines.specs.Checks.{later_read}
+use Rattle.lines.specs.shapes.Shapes.{message_shape_lem, event_shape_lem, state_shape_lem}
 use Rattle.lines.specs.misplaced.Place.{Misplaced}
 use lib.ListN.{length}
-use Rattle.text.specs.declared.Fields.{Fields}
 use Rattle.text.specs.Fields.{fields_of}
 use Rattle.lines.specs.declared.next.NextLine.{NextLine}
 use Rattle.lines.specs.next.Next.{Next}
 
 module _ (line : List ℕ) (i : ℕ) where
-  pub field-at-determined : Determines (λ (r : List ℕ). r ≡ field (split 9 line) i)
-  field-at-determined = equal _
-
-  pub word-at-determined : (word : List ℕ) → Determines (λ (r : Bool). r ≡ says (split 9 line) i word)
-  word-at-determined word = equal _
-
-module _ (line : List ℕ) (i : ℕ) where
-  pub controller-at-determined : Determines (λ (r : FoundController). r ≡ found_controller (field (split 9 line) i))
+  pub controller-at-determined : Determines (λ (r : Option Controller). r ≡ found_controller (field (split 9 line) i))
   controller-at-determined = equal _
 
 module _ (line : List ℕ) where
-  pub message-shape-determined : Determines (λ (r : MessageWords). r ≡ message_shape_lem (split 9 line))
+  pub message-shape-determined : Determines (λ (r : Result Kind Field). r ≡ message_shape_lem (split 9 line))
   message-shape-determined = equal _
 
-  pub event-shape-determined : Determines (λ (r : Bool). r ≡ shaped event (split 9 line))
+  pub event-shape-determined : Determines (λ (r : Result ⊤ Field). r ≡ event_shape_lem (split 9 line))
   event-shape-determined = equal _
 
-  pub state-shape-determined : Determines (λ (r : StateWords). r ≡ state_shape_lem (split 9 line))
+  pub state-shape-determined : Determines (λ (r : Result (Controller × Stability) Field). r ≡ state_shape_lem (split 9 line))
   state-shape-determined = equal _
 
-abbrev next_of : ℕ → Fields → Bool → NextLine
-next_of e f b = record { end = e; fields = f; is = b }
-
-pub next-line-determined : (text : List ℕ) (at : ℕ) (word : List ℕ) → Determines (Next text at word)
-next-line-determined text at word r s p q =
+-- the end of the next line, and the bytes of the line, whose fields follow from them
+pub next-line-determined : (text : List ℕ) (at : ℕ) (r s : NextLine) → Next text at r → Next text at s
+    → (r.end ≡ s.end) × (r.line.bytes.now ≡ s.line.bytes.now) × (r.line.fields ≡ s.line.fields)
+next-line-determined text at r s p q =
     let e : r.end ≡ s.end = p.ends ∙ sym q.ends in
-    let f : r.fields ≡ s.fields =
-    p.are ∙ sym (subst (λ (k : ℕ). s.fields ≡ fields_of (part text at k) 0 (length (part text at k))) (sym e) q.are) in
-    let b : r.is ≡ s.is = p.said ∙ sym (subst (λ (k : ℕ). s.is ≡ says (split 9 (part text at k)) 0 word) (sym e) q.said) in
-    same e f b
-  where
-    same : {a b : ℕ} {f g : Fields} {x y : Bool} → a ≡ b → f ≡ g → x ≡ y → next_of a f x ≡ next_of b g y
-    same p q r = cc
+    let b : r.line.bytes.now ≡ s.line.bytes.now = p.line ∙ ap (part text at) e ∙ sym q.line in
+    (e, b, r.line.are ∙ ap (λ (l : List ℕ). fields_of l 0 (length l)) b ∙ sym s.line.are)
 
 -- a line that is no cell, behind some tables with a cell
 pub misplaced-determined : (k : ℕ) (line : List ℕ) → says (split 9 line) 0 cell_word ≡ false → Determines (Misplaced k line)

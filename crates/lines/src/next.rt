@@ -3,28 +3,23 @@ ghost use Rattle.std.specs.Prelude.{◌<◌, length};
 ghost use Rattle.papers.specs.Lined.{Lined};
 ghost use Rattle.lines.specs.next.Next.{Next};
 
-use text::Fields;
+use papers::records::Record;
 
-// Where the line ends, its fields, and whether its first field is the word that was asked for.
+// Where the line ends, and its fields.
 #[derive(Clone, Copy)]
-pub struct NextLine {
+pub struct NextLine<'a> {
     pub end: usize,
-    pub fields: Fields,
-    pub is: bool,
+    pub line: Record<'a>,
 }
 
 // The line that starts at a place.
-pub fn next_line(text: &[u8], at: usize, word: &[u8]) -> NextLine
+pub fn next_line(text: &[u8], at: usize) -> NextLine
     requires { Lined text.now at × (at < length text.now) }
-    ensures { Next text.now at word.now result }
+    ensures { Next text.now at result }
 {
-    let e = text::find(text, 10, at, text.len());
-    let part = &text[at..e];
-    let f = text::line_fields::fields_of(part, 0, part.len());
-    let is = crate::is_record(part, f, word);
+    let end = text::find(text, 10, at, text.len());
     NextLine {
-        end: e,
-        fields: f,
-        is: is,
+        end,
+        line: Record::of(&text[at..end]),
     }
 }

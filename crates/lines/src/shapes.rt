@@ -2,73 +2,56 @@
 // also where the count is wrong too, and 0 where only that is.
 ghost use Rattle.std.specs.Prelude.{◌≡◌};
 ghost use Rattle.text.specs.Parts.{split};
-ghost use Rattle.lines.specs.Line.{event};
-ghost use Rattle.lines.specs.Checks.{shaped};
-ghost use Rattle.lines.specs.Told.{FieldsAre};
-ghost use Rattle.lines.specs.shapes.Shapes.{message_shape_lem, state_shape_lem};
+ghost use Rattle.lines.specs.shapes.Shapes.{message_shape_lem, event_shape_lem, state_shape_lem};
 
-use crate::words::{FoundController, FoundKind, FoundStability};
+use papers::records::Record;
+use papers::refused::Field;
 use tables::{Controller, Kind, Stability};
-use text::Fields;
-
-// The fixed word of a message's line, or the field that is wrong.
-#[derive(Clone, Copy)]
-pub enum MessageWords {
-    Are(Kind),
-    Wrong(u8),
-}
-
-// The fixed words of a state's line, or the field that is wrong.
-#[derive(Clone, Copy)]
-pub enum StateWords {
-    Are(Controller, Stability),
-    Wrong(u8),
-}
 
 // The type of a message's line, where that is shaped.
-pub fn message_shape(line: &[u8], f: Fields) -> MessageWords
-    requires { FieldsAre line.now f }
-    ensures { result ≡ message_shape_lem (split 9 line.now) }
+pub fn message_shape(line: &Record) -> Result<Kind, Field>
+    ensures { result ≡ message_shape_lem (split 9 line.now.bytes.now) }
 {
-    if f.count < 3 {
-        return MessageWords::Wrong(0);
+    if line.count() < 3 {
+        return Err(Field(0));
     }
-    let FoundKind::Is(kind) = crate::words::kind_at(line, f, 2) else {
-        return MessageWords::Wrong(3);
+    let Some(kind) = crate::words::kind_at(line, 2) else {
+        return Err(Field(3));
     };
-    if f.count != 3 {
-        return MessageWords::Wrong(0);
+    if line.count() != 3 {
+        return Err(Field(0));
     }
-    MessageWords::Are(kind)
+    Ok(kind)
 }
 
-// Whether an event's line is shaped.
-pub fn event_shape(line: &[u8], f: Fields) -> bool
-    requires { FieldsAre line.now f }
-    ensures { result ≡ shaped event (split 9 line.now) }
+// That an event's line is shaped.
+pub fn event_shape(line: &Record) -> Result<(), Field>
+    ensures { result ≡ event_shape_lem (split 9 line.now.bytes.now) }
 {
-    f.count == 2
+    if line.count() != 2 {
+        return Err(Field(0));
+    }
+    Ok(())
 }
 
 // The controller and the kind of a state's line, where that is shaped.
-pub fn state_shape(line: &[u8], f: Fields) -> StateWords
-    requires { FieldsAre line.now f }
-    ensures { result ≡ state_shape_lem (split 9 line.now) }
+pub fn state_shape(line: &Record) -> Result<(Controller, Stability), Field>
+    ensures { result ≡ state_shape_lem (split 9 line.now.bytes.now) }
 {
-    if f.count < 2 {
-        return StateWords::Wrong(0);
+    if line.count() < 2 {
+        return Err(Field(0));
     }
-    let FoundController::Is(controller) = crate::words::controller_at(line, f, 1) else {
-        return StateWords::Wrong(2);
+    let Some(controller) = crate::words::controller_at(line, 1) else {
+        return Err(Field(2));
     };
-    if f.count < 4 {
-        return StateWords::Wrong(0);
+    if line.count() < 4 {
+        return Err(Field(0));
     }
-    let FoundStability::Is(stability) = crate::words::stability_at(line, f, 3) else {
-        return StateWords::Wrong(4);
+    let Some(stability) = crate::words::stability_at(line, 3) else {
+        return Err(Field(4));
     };
-    if f.count != 4 {
-        return StateWords::Wrong(0);
+    if line.count() != 4 {
+        return Err(Field(0));
     }
-    StateWords::Are(controller, stability)
+    Ok((controller, stability))
 }

@@ -2,76 +2,57 @@
 ghost use Rattle.std.specs.Prelude.{◌≡◌, ◌<◌};
 ghost use Rattle.text.specs.Parts.{split};
 ghost use Rattle.text.specs.Line.{field};
-ghost use Rattle.lines.specs.Told.{FieldsAre};
 ghost use Rattle.lines.specs.words.Found.{found_kind, found_controller, found_stability};
 
+use papers::records::Record;
 use tables::{Controller, Kind, Stability};
-use text::Fields;
-
-#[derive(Clone, Copy)]
-pub enum FoundKind {
-    Is(Kind),
-    Nothing,
-}
 
 // The message type that field i says.
-pub(crate) fn kind_at(line: &[u8], f: Fields, i: usize) -> FoundKind
-    requires { FieldsAre line.now f × (i < f.count) }
-    ensures { result ≡ found_kind (field (split 9 line.now) i) }
+pub(crate) fn kind_at(line: &Record, i: usize) -> Option<Kind>
+    requires { i < line.now.fields.count }
+    ensures { result ≡ found_kind (field (split 9 line.now.bytes.now) i) }
 {
-    if crate::word_at(line, f, i, &text::words::REQ) {
-        return FoundKind::Is(Kind::Req);
+    if line.says(i, &text::words::REQ) {
+        return Some(Kind::Req);
     }
-    if crate::word_at(line, f, i, &text::words::FWD) {
-        return FoundKind::Is(Kind::Fwd);
+    if line.says(i, &text::words::FWD) {
+        return Some(Kind::Fwd);
     }
-    if crate::word_at(line, f, i, &text::words::DATA) {
-        return FoundKind::Is(Kind::Data);
+    if line.says(i, &text::words::DATA) {
+        return Some(Kind::Data);
     }
-    if crate::word_at(line, f, i, &text::words::CTL) {
-        return FoundKind::Is(Kind::Ctl);
+    if line.says(i, &text::words::CTL) {
+        return Some(Kind::Ctl);
     }
-    FoundKind::Nothing
+    None
 }
 
 // ---- a state
 
-#[derive(Clone, Copy)]
-pub enum FoundController {
-    Is(Controller),
-    Nothing,
-}
-
-#[derive(Clone, Copy)]
-pub enum FoundStability {
-    Is(Stability),
-    Nothing,
-}
-
 // The controller that field i says.
-pub fn controller_at(line: &[u8], f: Fields, i: usize) -> FoundController
-    requires { FieldsAre line.now f × (i < f.count) }
-    ensures { result ≡ found_controller (field (split 9 line.now) i) }
+pub fn controller_at(line: &Record, i: usize) -> Option<Controller>
+    requires { i < line.now.fields.count }
+    ensures { result ≡ found_controller (field (split 9 line.now.bytes.now) i) }
 {
-    if crate::word_at(line, f, i, &text::words::CACHE) {
-        return FoundController::Is(Controller::Cache);
+    if line.says(i, &text::words::CACHE) {
+        return Some(Controller::Cache);
     }
-    if crate::word_at(line, f, i, &text::words::DIR) {
-        return FoundController::Is(Controller::Dir);
+    if line.says(i, &text::words::DIR) {
+        return Some(Controller::Dir);
     }
-    FoundController::Nothing
+    None
 }
 
 // Whether field i says stable or transient.
-pub(crate) fn stability_at(line: &[u8], f: Fields, i: usize) -> FoundStability
-    requires { FieldsAre line.now f × (i < f.count) }
-    ensures { result ≡ found_stability (field (split 9 line.now) i) }
+pub(crate) fn stability_at(line: &Record, i: usize) -> Option<Stability>
+    requires { i < line.now.fields.count }
+    ensures { result ≡ found_stability (field (split 9 line.now.bytes.now) i) }
 {
-    if crate::word_at(line, f, i, &text::words::STABLE) {
-        return FoundStability::Is(Stability::Stable);
+    if line.says(i, &text::words::STABLE) {
+        return Some(Stability::Stable);
     }
-    if crate::word_at(line, f, i, &text::words::TRANSIENT) {
-        return FoundStability::Is(Stability::Transient);
+    if line.says(i, &text::words::TRANSIENT) {
+        return Some(Stability::Transient);
     }
-    FoundStability::Nothing
+    None
 }

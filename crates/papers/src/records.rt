@@ -9,19 +9,19 @@ use text::Fields;
 // A line, and where its fields stand.
 #[derive(Clone, Copy)]
 pub struct Record<'a> {
-    pub line: &'a [u8],
+    pub bytes: &'a [u8],
     pub fields: Fields,
-    pub ghost are: { FieldsAre line.now fields },
+    pub ghost are: { FieldsAre bytes.now fields },
 }
 
 impl<'a> Record<'a> {
     // The line as a record.
-    pub fn of(line: &'a [u8]) -> Record<'a>
-        ensures { result.line.now ≡ line.now }
+    pub fn of(bytes: &'a [u8]) -> Record<'a>
+        ensures { result.bytes.now ≡ bytes.now }
     {
         Record {
-            line,
-            fields: text::line_fields::fields_of(line, 0, line.len()),
+            bytes,
+            fields: text::line_fields::fields_of(bytes, 0, bytes.len()),
         }
     }
 
@@ -35,24 +35,24 @@ impl<'a> Record<'a> {
     // Field i, counted from 0.
     pub fn field(&self, i: usize) -> &'a [u8]
         requires { i < self.now.fields.count }
-        ensures { result.now ≡ field (split 9 self.now.line.now) i }
+        ensures { result.now ≡ field (split 9 self.now.bytes.now) i }
     {
         let a = self.fields.from[i];
         let e = self.fields.to[i];
-        &self.line[a..e]
+        &self.bytes[a..e]
     }
 
     // Whether field i is this word.
     pub fn says(&self, i: usize, word: &[u8]) -> bool
         requires { i < self.now.fields.count }
-        ensures { result ≡ says (split 9 self.now.line.now) i word.now }
+        ensures { result ≡ says (split 9 self.now.bytes.now) i word.now }
     {
         text::same(self.field(i), word)
     }
 
     // Whether it is a record of this word: every line has a first field.
     pub fn is(&self, word: &[u8]) -> bool
-        ensures { result ≡ says (split 9 self.now.line.now) 0 word.now }
+        ensures { result ≡ says (split 9 self.now.bytes.now) 0 word.now }
     {
         self.says(0, word)
     }

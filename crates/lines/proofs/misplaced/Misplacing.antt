@@ -11,7 +11,8 @@ use Rattle.tables.specs.declared.Tables.{Tables}
 use Rattle.text.specs.Line.{Line}
 use Rattle.lines.specs.Line.{Section, unknown, section_of}
 use Rattle.lines.specs.Checks.{shaped, shape_field, later_read, bad_name, name_field, is_not_known, unknown_field, twice, full, stall_in_stable, conflict}
-use Rattle.lines.specs.misplaced.Place.{late_refusal, Misplaced}
+use Rattle.lines.specs.shapes.Shapes.{shape_told}
+use Rattle.lines.specs.misplaced.Place.{late_refusal, late_told, Misplaced}
 use Rattle.lines.proofs.Reasons.{reason, tells, eight_of, line_reason, refuses}
 
 turned : (b : Bool) (x : ℕ) → cond (not b) (reason 4 x) (reason 5 0) ≡ cond b (reason 5 0) (reason 4 x)
@@ -49,9 +50,10 @@ misplaced-when k line why s e q =
           ∙ sym (q ∙ ap (λ (x : Section). late_refusal x k f) (sym e ∙ h));
     }
 
--- a line that is shaped, and one that is not
-pub late-shaped : (s : Section) (k : ℕ) (f : Line) → shaped s f ≡ true → refusal 5 k ≡ late_refusal s k f
-late-shaped s k f e = sym (ap (λ (b : Bool). cond b (refusal 5 k) (field_refusal 4 k (shape_field s f))) e)
-
-pub late-wrong : (s : Section) (k : ℕ) (f : Line) (x : ℕ) → shaped s f ≡ false → x ≡ shape_field s f → field_refusal 4 k x ≡ late_refusal s k f
-late-wrong s k f x e q = ap (λ (y : ℕ). field_refusal 4 k y) q ∙ sym (ap (λ (b : Bool). cond b (refusal 5 k) (field_refusal 4 k (shape_field s f))) e)
+-- by what is told of its shape
+pub late-by_shape : {A : Type 0} (s : Section) (k : ℕ) (f : Line) (words : A) → late_told (shape_told s f words) k ≡ late_refusal s k f
+late-by_shape s k f words = go (shaped s f) refl
+  where
+    go : (b : Bool) → shaped s f ≡ b → late_told (shape_told s f words) k ≡ late_refusal s k f
+    go true e = rw e refl
+    go false e = rw e refl

@@ -9,8 +9,8 @@ use lib.Dec.{eqb, ltb}
 use borrow.Author.Tests.{eq-eqb, ne_eqb, eqb-true, eqb-false, lt-ltb, le-ltb}
 use Rattle.text.specs.declared.Fields.{Fields}
 use Rattle.text.specs.Parts.{split}
-use Rattle.lines.specs.Told.{FieldsAre}
-use Rattle.lines.proofs.Fields.{few, counted, many}
+use Rattle.papers.specs.records.FieldsAre.{FieldsAre}
+use Rattle.papers.proofs.Recorded.{few, counted, many}
 
 module _ (line : List ℕ) (f : Fields) (are : FieldsAre line f) (n : ℕ) (h : n < 15) where
   pub count-is : f.count ≡ n → eqb (length (split 9 line)) n ≡ true

@@ -2,15 +2,12 @@
 use mathlib.Core.Path.{◌≡◌, refl, sym, ap, ◌∙◌}
 use mathlib.Core.Bool.{Bool, true, false, cond}
 use mathlib.Core.List.{List, []}
-use Prim.Native.Nat.{ℕ, suc, ◌≤◌, ◌<◌}
+use Prim.Native.Nat.{ℕ, ◌≤◌, ◌<◌}
 use native.Mathlib.Omega.{arith}
 use lib.ListN.{length, take, get_or, length-take}
 use lib.Seq.{get_or-take, take_all}
 use lib.Dec.{ltb}
 use borrow.Author.Tests.{lt-ltb, le-ltb, ltb-true, ltb-false}
-use Rattle.rules.specs.declared.Message.{Message}
-use Rattle.rules.specs.declared.Event.{Event}
-use Rattle.rules.specs.declared.State.{State}
 use Rattle.text.specs.declared.Name.{Name}
 use Rattle.tables.specs.declared.Kind.TheVariants.{Req}
 use Rattle.tables.specs.declared.Controller.TheVariants.{Cache}
@@ -20,9 +17,9 @@ use Rattle.tables.specs.declared.EventRow.{EventRow}
 use Rattle.tables.specs.declared.StateRow.{StateRow}
 use Rattle.text.specs.Parts.{first_index}
 use Rattle.text.proofs.Parts.{first-at, first-none, first-before, first_passes}
-use Rattle.std.specs.Prelude.{Option, Some, None}
+use Rattle.std.specs.Prelude.{Some, None}
 use Rattle.std.proofs.lemmas.Option.{none-some, same_Some}
-use Rattle.tables.specs.names.Names.{found, found_message, found_event, found_state}
+use Rattle.tables.specs.names.Names.{found}
 
 -- what an array of rows is read as past its end
 abbrev pub blank_name : Name

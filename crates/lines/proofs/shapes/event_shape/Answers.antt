@@ -1,7 +1,11 @@
 -- `lines::shapes::event_shape` meets its contract.
 use native.Mathlib.Omega.{arith}
-use Rattle.lines.proofs.shapes.Counts.{count_same}
+use Rattle.lines.proofs.shapes.Counts.{count-is, count-is-not}
+use Rattle.lines.proofs.shapes.Shaped.{event-right, event-wrong}
 use Rattle.lines.proofs.shapes.event_shape.Goals as goal
 
+pub returns-then-count-ne2 : goal.returns-then-count-ne2
+returns-then-count-ne2 c = event-wrong _ (count-is-not _ _ c.args.line.now.are 2 (omega arith) (λ e. absurd (omega (arith, e))))
+
 pub returns : goal.returns
-returns c = count_same _ _ c.requires 2 (omega arith)
+returns c = event-right _ (count-is _ _ c.args.line.now.are 2 (omega arith) (omega arith))
