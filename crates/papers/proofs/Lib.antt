@@ -5,4 +5,5 @@ pub mod OpeningLaws
 pub mod Determined
 pub mod WholeLine
 pub mod Recorded
+pub mod Refusals
 pub mod Joined
