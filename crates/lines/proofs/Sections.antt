@@ -8,7 +8,7 @@ use Rattle.text.specs.Words.{message_word, event_word, state_word, cell_word}
 use Rattle.text.proofs.Parts.{same_true}
 use Rattle.lines.proofs.Both.{not-both}
 use Rattle.text.specs.Line.{Line, field, says}
-use Rattle.lines.specs.Line.{Section, message, event, state, cell, unknown, section_of}
+use Rattle.lines.specs.Line.{Section, message, event, state, cell, unknown, section_of, picked_by, says_of}
 
 -- a text that is one word is not another
 pub other_word : (x a b : List ℕ) → is_same_text x a ≡ true → is_same_text a b ≡ false → is_same_text x b ≡ false
@@ -51,24 +51,12 @@ module _ (f : Line) where
 
 -- ---- a line of a section has that section's word
 
--- Which of the four a section is picked by.
-abbrev pub picked_by : Section → Bool → Bool → Bool → Bool → Bool
-picked_by message a b c d = a
-picked_by event a b c d = b
-picked_by state a b c d = c
-picked_by cell a b c d = d
-picked_by unknown a b c d = true
-
 picked-by : (a b c d : Bool) → picked_by (pick_of a b c d) a b c d ≡ true
 picked-by true b c d = refl
 picked-by false true c d = refl
 picked-by false false true d = refl
 picked-by false false false true = refl
 picked-by false false false false = refl
-
--- The line has the word of this section.
-abbrev pub says_of : Section → Line → Bool
-says_of s f = picked_by s (says f 0 message_word) (says f 0 event_word) (says f 0 state_word) (says f 0 cell_word)
 
 section-says : (f : Line) → says_of (section_of f) f ≡ true
 unfolding section_of

@@ -1,5 +1,5 @@
 -- One line of a protocol text (01-scope.md, "The protocol text"): what its fields say. A line is the list of its fields.
-use Rattle.std.specs.Prelude.{ℕ, ◌-◌, Bool, ◌||◌, cond, List, ◌++◌, map, length, drop, replicate}
+use Rattle.std.specs.Prelude.{ℕ, ◌-◌, Bool, true, ◌||◌, cond, List, ◌++◌, map, length, drop, replicate}
 use Rattle.rules.specs.declared.Message.{Message}
 use Rattle.text.specs.Parts.{is_same_text}
 use Rattle.text.specs.Line.{Line, field, says}
@@ -33,6 +33,18 @@ section_of f =
     (cond (says f 0 event_word) event
     (cond (says f 0 state_word) state
     (cond (says f 0 cell_word) cell unknown)))
+
+-- Which of the four a section is picked by.
+abbrev pub picked_by : Section → Bool → Bool → Bool → Bool → Bool
+picked_by message a b c d = a
+picked_by event a b c d = b
+picked_by state a b c d = c
+picked_by cell a b c d = d
+picked_by unknown a b c d = true
+
+-- The line has the word of this section.
+abbrev pub says_of : Section → Line → Bool
+says_of s f = picked_by s (says f 0 message_word) (says f 0 event_word) (says f 0 state_word) (says f 0 cell_word)
 
 -- ---- fixed words
 

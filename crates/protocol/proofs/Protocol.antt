@@ -12,8 +12,7 @@ use Rattle.papers.proofs.OpeningLaws.{opened}
 use Rattle.tables.specs.declared.Tables.{Tables}
 use Rattle.tables.specs.Tables.{cleared_tables}
 use Rattle.lines.specs.Line.{message}
-use Rattle.protocol.specs.declared.whole.Reading.{Reading}
-use Rattle.protocol.specs.whole.Whole.{refused, unless}
+use Rattle.protocol.specs.whole.Whole.{Reading, refused, unless}
 use Rattle.protocol.specs.sections.Lines.{read_lines}
 use Rattle.protocol.specs.whole.Kept.{Kept}
 use Rattle.protocol.proofs.whole.Unless.{unless-passed, unless-refused}

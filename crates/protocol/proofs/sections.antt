@@ -1,6 +1,7 @@
 pub mod Steps
 pub mod Passed
 pub mod Kept
-pub mod Going
 pub mod Leaving
+pub mod Going
 pub mod Lines
+pub mod Stored

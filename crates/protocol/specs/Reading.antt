@@ -4,8 +4,7 @@ use Rattle.text.specs.Parts.{lines}
 use Rattle.text.specs.Words.{protocol_header}
 use Rattle.papers.specs.Opening.{opening_of}
 use Rattle.tables.specs.Tables.{cleared_tables}
-use Rattle.protocol.specs.declared.whole.Reading.{Reading}
-use Rattle.protocol.specs.whole.Whole.{unless}
+use Rattle.protocol.specs.whole.Whole.{Reading, unless}
 use Rattle.protocol.specs.sections.Lines.{read_lines}
 
 -- The order: 1, 2, 3, then the first bad line; then 12, 13.

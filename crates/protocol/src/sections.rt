@@ -1,178 +1,142 @@
-// The four sections of a protocol text, a loop each over its lines. Each hands on to the next.
-ghost use Rattle.std.specs.Prelude.{◌≡◌, drop, true};
-ghost use Rattle.text.specs.Parts.{lines, split};
-ghost use Rattle.text.specs.Line.{says};
-ghost use Rattle.lines.specs.Line.{message, event, state, cell};
-ghost use Rattle.protocol.specs.sections.Lines.{read_lines};
+// The four sections of a protocol text: one loop over the lines of each. It ends at the first line that is not of the section.
+ghost use Rattle.std.specs.Prelude.{◌≡◌, true, false};
+ghost use Rattle.text.specs.Parts.{split};
+ghost use Rattle.lines.specs.Line.{message, event, state, cell, says_of};
+ghost use Rattle.lines.specs.Checks.{later_read};
 ghost use Rattle.protocol.specs.whole.Kept.{Kept};
-ghost use Rattle.protocol.specs.sections.Sections.{Placed, Stage};
-ghost use Rattle.text.specs.Words.{cell_word};
-ghost use Rattle.lines.specs.Told.{FieldsAre};
-ghost use Rattle.cells.specs.Told.{CellTold};
+ghost use Rattle.protocol.specs.sections.Sections.{section_lem, Placed, Stage, AllRead};
+ghost use Rattle.protocol.specs.sections.Told.{LineTold, SectionTold, EndTold};
 
-use crate::whole::Reading;
-use cells::CellLine;
+use papers::records::Record;
+use papers::refused::Refused;
 use tables::Tables;
-use text::Fields;
 
-// ---- messages
-
-// Reads on while only messages were read.
-pub(crate) fn read_messages(text: &[u8], from: usize, first: usize, given: Tables) -> Reading
-    requires { Kept given × Placed text.now from first × Stage message text.now from given }
-    ensures { result ≡ read_lines first (lines (drop from text.now)) given }
-{
-    let mut t = given;
-    let mut at = from;
-    let mut line = first;
-    while at < text.len() {
-        let n = lines::next::next_line(text, at, &text::words::MESSAGE);
-        let e = n.end;
-        let f = n.fields;
-        if !n.is {
-            return read_events(text, at, line, t);
-        }
-        let rows = t.messages;
-        let count = t.message_count;
-        let r = declarations::messages::message_line(&text[at..e], f, line, rows, count);
-        if r.refusal.number != 0 {
-            return crate::whole::refused_at(r.refusal);
-        }
-        let row = r.row;
-        t.messages[count] = row;
-        t.message_count = count + 1;
-        at = e + 1;
-        line += 1;
-    }
-    read_events(text, at, line, t)
+// The sections of a protocol text, each by its record.
+#[derive(Clone, Copy)]
+pub enum Section {
+    Message,
+    Event,
+    State,
+    Cell,
 }
 
-// ---- events
-
-// Reads on from a line that is no message, or comes too late to be one.
-fn read_events(text: &[u8], from: usize, first: usize, given: Tables) -> Reading
-    requires { Kept given × Placed text.now from first × Stage event text.now from given }
-    ensures { result ≡ read_lines first (lines (drop from text.now)) given }
-{
-    let mut t = given;
-    let mut at = from;
-    let mut line = first;
-    while at < text.len() {
-        let n = lines::next::next_line(text, at, &text::words::EVENT);
-        let e = n.end;
-        let f = n.fields;
-        if !n.is {
-            return read_states(text, at, line, t);
-        }
-        let messages = t.messages;
-        let rows = t.events;
-        let count = t.event_count;
-        let r = declarations::events::event_line(
-            &text[at..e],
-            f,
-            line,
-            messages,
-            t.message_count,
-            rows,
-            count,
-        );
-        if r.refusal.number != 0 {
-            return crate::whole::refused_at(r.refusal);
-        }
-        let row = r.row;
-        t.events[count] = row;
-        t.event_count = count + 1;
-        at = e + 1;
-        line += 1;
-    }
-    read_states(text, at, line, t)
+// Where a line starts, and its number.
+#[derive(Clone, Copy)]
+pub struct LineStart {
+    pub at: usize,
+    pub line: usize,
 }
 
-// ---- states
-
-// Reads on from a line that is no message or event, or comes too late to be one.
-fn read_states(text: &[u8], from: usize, first: usize, given: Tables) -> Reading
-    requires { Kept given × Placed text.now from first × Stage state text.now from given }
-    ensures { result ≡ read_lines first (lines (drop from text.now)) given }
+// Whether the line is a record of the section.
+fn is_of(section: Section, line: &Record) -> bool
+    ensures { result ≡ says_of (section_lem section) (split 9 line.now.bytes.now) }
 {
-    let mut t = given;
-    let mut at = from;
-    let mut line = first;
-    while at < text.len() {
-        let n = lines::next::next_line(text, at, &text::words::STATE);
-        let e = n.end;
-        let f = n.fields;
-        if !n.is {
-            return read_cells(text, at, line, t);
-        }
-        let rows = t.states;
-        let count = t.state_count;
-        let r = declarations::states::state_line(&text[at..e], f, line, rows, count);
-        if r.refusal.number != 0 {
-            return crate::whole::refused_at(r.refusal);
-        }
-        let row = r.row;
-        t.states[count] = row;
-        t.state_count = count + 1;
-        at = e + 1;
-        line += 1;
+    match section {
+        Section::Message => line.is(&text::words::MESSAGE),
+        Section::Event => line.is(&text::words::EVENT),
+        Section::State => line.is(&text::words::STATE),
+        Section::Cell => line.is(&text::words::CELL),
     }
-    read_cells(text, at, line, t)
 }
 
-// ---- cells, to the end of the text
+// ---- one line of each section, stored behind what was read before it
 
-// A cell's line, after what was read so far.
-fn cell_of(line: &[u8], f: Fields, nth: usize, t: Tables) -> CellLine
-    requires { FieldsAre line.now f × (says (split 9 line.now) 0 cell_word ≡ true) × Kept t }
-    ensures { CellTold nth line.now t.messages t.message_count t.events t.event_count t.states t.state_count t.cells t.cell_count result }
+fn read_message(line: &Record, nth: usize, t: &mut Tables) -> Result<(), Refused>
+    requires word { says_of message (split 9 line.now.bytes.now) ≡ true }
+    requires kept { Kept t.old }
+    requires order { later_read message t.old ≡ false }
+    ensures { LineTold message nth line.now.bytes.now t.old t.new result }
 {
-    let messages = t.messages;
-    let events = t.events;
-    let states = t.states;
-    let cells = t.cells;
-    cells::cell_line(
-        line,
-        f,
-        nth,
-        messages,
-        t.message_count,
-        events,
-        t.event_count,
-        states,
-        t.state_count,
-        cells,
-        t.cell_count,
-    )
+    let row = declarations::messages::message_line(line, nth, t.messages())?;
+    t.messages[t.message_count] = row;
+    t.message_count += 1;
+    Ok(())
 }
 
-// Reads on from a line that is no message, event or state, or comes too late to be one.
-fn read_cells(text: &[u8], from: usize, first: usize, given: Tables) -> Reading
-    requires { Kept given × Placed text.now from first × Stage cell text.now from given }
-    ensures { result ≡ read_lines first (lines (drop from text.now)) given }
+fn read_event(line: &Record, nth: usize, t: &mut Tables) -> Result<(), Refused>
+    requires word { says_of event (split 9 line.now.bytes.now) ≡ true }
+    requires kept { Kept t.old }
+    requires order { later_read event t.old ≡ false }
+    ensures { LineTold event nth line.now.bytes.now t.old t.new result }
 {
-    let mut t = given;
-    let mut at = from;
-    let mut line = first;
-    while at < text.len() {
-        let n = lines::next::next_line(text, at, &text::words::CELL);
-        let e = n.end;
-        let f = n.fields;
-        let part = &text[at..e];
-        if !n.is {
-            let why = lines::misplaced::misplaced(part, f, line);
-            return crate::whole::refused_at(why);
-        }
-        let told = cell_of(part, f, line, t);
-        if told.refusal.number != 0 {
-            return crate::whole::refused_at(told.refusal);
-        }
-        let count = t.cell_count;
-        let row = told.cell;
-        t.cells[count] = row;
-        t.cell_count = count + 1;
-        at = e + 1;
-        line += 1;
+    let row = declarations::events::event_line(line, nth, t.messages(), t.events())?;
+    t.events[t.event_count] = row;
+    t.event_count += 1;
+    Ok(())
+}
+
+fn read_state(line: &Record, nth: usize, t: &mut Tables) -> Result<(), Refused>
+    requires word { says_of state (split 9 line.now.bytes.now) ≡ true }
+    requires kept { Kept t.old }
+    requires order { later_read state t.old ≡ false }
+    ensures { LineTold state nth line.now.bytes.now t.old t.new result }
+{
+    let row = declarations::states::state_line(line, nth, t.states())?;
+    t.states[t.state_count] = row;
+    t.state_count += 1;
+    Ok(())
+}
+
+fn read_cell(line: &Record, nth: usize, t: &mut Tables) -> Result<(), Refused>
+    requires word { says_of cell (split 9 line.now.bytes.now) ≡ true }
+    requires kept { Kept t.old }
+    ensures { LineTold cell nth line.now.bytes.now t.old t.new result }
+{
+    let row = cells::cell_line(line, nth, t)?;
+    t.cells[t.cell_count] = row;
+    t.cell_count += 1;
+    Ok(())
+}
+
+fn read_line(section: Section, line: &Record, nth: usize, t: &mut Tables) -> Result<(), Refused>
+    requires word { says_of (section_lem section) (split 9 line.now.bytes.now) ≡ true }
+    requires kept { Kept t.old }
+    requires order { later_read (section_lem section) t.old ≡ false }
+    ensures { LineTold (section_lem section) nth line.now.bytes.now t.old t.new result }
+{
+    match section {
+        Section::Message => read_message(line, nth, t),
+        Section::Event => read_event(line, nth, t),
+        Section::State => read_state(line, nth, t),
+        Section::Cell => read_cell(line, nth, t),
     }
-    crate::whole::finished(t)
+}
+
+// ---- a section
+
+// Reads the lines of a section, and answers where the first line starts that is not of it.
+pub(crate) fn read_section(
+    section: Section,
+    text: &[u8],
+    from: LineStart,
+    t: &mut Tables,
+) -> Result<LineStart, Refused>
+    requires { Kept t.old × Placed text.now from.at from.line × Stage (section_lem section) text.now from.at t.old }
+    ensures { SectionTold (section_lem section) text.now from t.old t.new result }
+{
+    let mut here = from;
+    while here.at < text.len() {
+        let next = lines::next::next_line(text, here.at);
+        if !is_of(section, &next.line) {
+            break;
+        }
+        read_line(section, &next.line, here.line, t)?;
+        here = LineStart {
+            at: next.end + 1,
+            line: here.line + 1,
+        };
+    }
+    Ok(here)
+}
+
+// Behind the last section no line is left: one that is there is too late for its section, or of none.
+pub(crate) fn ended(text: &[u8], rest: LineStart, t: &Tables) -> Result<(), Refused>
+    requires { Placed text.now rest.at rest.line × AllRead text.now rest.at t.now }
+    ensures { EndTold text.now rest t.now result }
+{
+    if rest.at < text.len() {
+        let next = lines::next::next_line(text, rest.at);
+        return Err(lines::misplaced::misplaced(&next.line, rest.line));
+    }
+    Ok(())
 }

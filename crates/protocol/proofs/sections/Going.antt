@@ -1,29 +1,32 @@
 -- A section's loop: what holds whenever its test is reached, and how each line carries it on.
 use Prim.Native.Nat.{ℕ, ◌+◌, ◌<◌}
-use mathlib.Core.Path.{◌≡◌, sym, ap, subst, ◌∙◌}
+use mathlib.Core.Path.{◌≡◌, refl, sym, ap, subst, ◌∙◌}
 use mathlib.Core.List.{List}
 use native.Mathlib.Omega.{arith}
 use lib.ListN.{length, drop}
-use borrow.Author.Tests.{lt-ltb, leb-false}
+use borrow.Author.Tests.{lt-ltb}
 use Rattle.text.specs.Parts.{place, split, lines}
 use Rattle.papers.specs.declared.Refusal.{Refusal}
 use Rattle.papers.proofs.Walk.{walk-next}
 use Rattle.tables.specs.declared.Tables.{Tables}
-use Rattle.tables.specs.declared.MessageRow.{MessageRow}
-use Rattle.tables.specs.declared.EventRow.{EventRow}
-use Rattle.tables.specs.declared.StateRow.{StateRow}
-use Rattle.tables.specs.declared.Cell.{Cell}
 use Rattle.tables.specs.Tables.{with_message, with_event, with_state, with_cell}
-use Rattle.tables.specs.Cells.{CellOk}
-use Rattle.lines.specs.Line.{Section, message, event, state, cell, message_of, event_of, state_of, cell_of}
-use Rattle.lines.specs.Told.{Refuses}
 use Rattle.protocol.specs.whole.Whole.{refused}
 use Rattle.protocol.specs.sections.Lines.{stored_in, read_lines}
 use Rattle.protocol.specs.whole.Kept.{Kept}
-use Rattle.protocol.specs.sections.Sections.{Placed, line_at, section_at, Stage}
+use Rattle.protocol.specs.sections.Sections.{Placed, line_at, section_at, Stage, section_lem}
 use Rattle.protocol.proofs.sections.Steps.{step-on, step-bad}
-use Rattle.protocol.proofs.sections.Passed.{Passed, line-passed}
-use Rattle.protocol.proofs.sections.Kept.{kept-message, kept-event, kept-state, kept-cell}
+use Rattle.std.specs.Prelude.{Ok}
+use Rattle.text.specs.Line.{Line}
+use Rattle.papers.specs.Checks.{none}
+use Rattle.lines.specs.Line.{Section, section_of, says_of}
+use Rattle.lines.specs.Told.{Refuses}
+use Rattle.lines.proofs.Sections.{a-message, an-event, a-state, a-cell}
+use Rattle.protocol.specs.declared.sections.Section.{Section as CodeSection}
+use Rattle.protocol.specs.declared.sections.Section.TheVariants.{Message, Event, State, Cell}
+use Rattle.protocol.specs.declared.sections.LineStart.{LineStart}
+use Rattle.protocol.specs.sections.Told.{LineTold, Came}
+use Rattle.protocol.proofs.sections.Leaving.{Leaves, leave}
+use mathlib.Core.Bool.{true}
 
 -- From line `from-line` at the place `from`, with t₀, the reading came to line `line` at the place `at`, with t, and is in section s.
 pub record Going (s : Section) (text : List ℕ) (from from-line : ℕ) (t₀ : Tables) (at line : ℕ) (t : Tables) : Type 0 where
@@ -50,69 +53,46 @@ module _ (s : Section) (text : List ℕ) (from from-line : ℕ) (t₀ : Tables) 
       → read_lines from-line (lines (drop from text)) t₀ ≡ read_lines (line + 1) (lines (drop (end + 1) text)) u
   next-on why f z u e = g.on ∙ step-on text at g.placed.lined h t line why f z ∙ ap (read_lines (line + 1) (lines (drop (end + 1) text))) e
 
-module _ (text : List ℕ) (from from-line : ℕ) (t₀ : Tables) (at line : ℕ) (t : Tables) (h : at < length text) where
-  abbrev next : ℕ
-  next = place 10 text at (length text) + 1
+-- a line whose first field is a section's word is of that section
+pub of_section : (c : CodeSection) (f : Line) → says_of (section_lem c) f ≡ true → section_of f ≡ section_lem c
+of_section Message f e = a-message f e
+of_section Event f e = an-event f e
+of_section State f e = a-state f e
+of_section Cell f e = a-cell f e
 
-  pub passed-as : (s : Section) (why : Refusal) → section_at text at ≡ s → Refuses t line (line_at text at) why → why.number ≡ 0 → Passed s t (split 9 (line_at text at))
-  passed-as s why e r z = subst (λ (k : Section). Passed k t (split 9 (line_at text at))) e (line-passed t line (line_at text at) why r z)
+-- storing a line of a section leaves the reading in it
+pub stage-on : (c : CodeSection) (text : List ℕ) (at next : ℕ) (t : Tables) (f : Line) → Stage (section_lem c) text at t → Stage (section_lem c) text next (stored_in (section_lem c) t f)
+unfolding with_message with_event with_state with_cell
+stage-on Message text at next t f g = g
+stage-on Event text at next t f g = (g.0, g.1, λ k w. lt-ltb 0 (t.event_count + 1 + t.state_count + t.cell_count) (omega arith))
+stage-on State text at next t f g = (
+  g.0,
+  λ k w. lt-ltb 0 (t.event_count + (t.state_count + 1) + t.cell_count) (omega arith),
+  λ k w. lt-ltb 0 (t.state_count + 1 + t.cell_count) (omega arith),
+)
+stage-on Cell text at next t f g = (
+  λ k w. lt-ltb 0 (t.event_count + t.state_count + (t.cell_count + 1)) (omega arith),
+  λ k w. lt-ltb 0 (t.state_count + (t.cell_count + 1)) (omega arith),
+  λ k w. lt-ltb 0 (t.cell_count + 1) (omega arith),
+)
 
-  stored-as : (s : Section) → section_at text at ≡ s → stored_in (section_at text at) t (split 9 (line_at text at)) ≡ stored_in s t (split 9 (line_at text at))
-  stored-as s e = ap (λ (k : Section). stored_in k t (split 9 (line_at text at))) e
+-- the line is stored
+pub going-on : (c : CodeSection) (text : List ℕ) (from from-line : ℕ) (t₀ : Tables) (at line : ℕ) (t u : Tables)
+    → Going (section_lem c) text from from-line t₀ at line t → at < length text → says_of (section_lem c) (split 9 (line_at text at)) ≡ true
+    → LineTold (section_lem c) line (line_at text at) t u (Ok tt)
+    → Going (section_lem c) text from from-line t₀ (place 10 text at (length text) + 1) (line + 1) u
+going-on c text from from-line t₀ at line t u g h w r =
+    let s = section_lem c in
+    let f = split 9 (line_at text at) in
+    let e : stored_in (section_at text at) t f ≡ u = ap (λ (k : Section). stored_in k t f) (of_section c f w) ∙ sym r.stored.0 in
+    record {
+      on = next-on s text from from-line t₀ at line t g h none r.told refl u e;
+      kept = r.stored.1;
+      placed = next-placed s text from from-line t₀ at line t g h;
+      stage = subst (Stage s text (place 10 text at (length text) + 1)) (sym r.stored.0) (stage-on c text at (place 10 text at (length text) + 1) t f g.stage);
+    }
 
-  pub going-message : Going message text from from-line t₀ at line t → section_at text at ≡ message → (why : Refusal) → Refuses t line (line_at text at) why → why.number ≡ 0
-      → (row : MessageRow) → row ≡ message_of (split 9 (line_at text at)) → Going message text from from-line t₀ next (line + 1) (with_message t row)
-  unfolding with_message message_of
-  going-message g e why r z row q =
-      let p = passed-as message why e r z in
-      record {
-        on = next-on message text from from-line t₀ at line t g h why r z (with_message t row) (stored-as message e ∙ ap (with_message t) (sym q));
-        kept = kept-message t g.kept row (leb-false 64 t.message_count p.room);
-        placed = next-placed message text from from-line t₀ at line t g h;
-        stage = g.stage;
-      }
-
-  pub going-event : Going event text from from-line t₀ at line t → section_at text at ≡ event → (why : Refusal) → Refuses t line (line_at text at) why → why.number ≡ 0
-      → (row : EventRow) → row ≡ event_of (split 9 (line_at text at)) → Going event text from from-line t₀ next (line + 1) (with_event t row)
-  unfolding with_event event_of
-  going-event g e why r z row q =
-      let p = passed-as event why e r z in
-      record {
-        on = next-on event text from from-line t₀ at line t g h why r z (with_event t row) (stored-as event e ∙ ap (with_event t) (sym q));
-        kept = kept-event t g.kept row (leb-false 8 t.event_count p.room);
-        placed = next-placed event text from from-line t₀ at line t g h;
-        stage = (g.stage.0, g.stage.1, λ k w. lt-ltb 0 (t.event_count + 1 + t.state_count + t.cell_count) (omega arith));
-      }
-
-  pub going-state : Going state text from from-line t₀ at line t → section_at text at ≡ state → (why : Refusal) → Refuses t line (line_at text at) why → why.number ≡ 0
-      → (row : StateRow) → row ≡ state_of (split 9 (line_at text at)) → Going state text from from-line t₀ next (line + 1) (with_state t row)
-  unfolding with_state state_of
-  going-state g e why r z row q =
-      let p = passed-as state why e r z in
-      record {
-        on = next-on state text from from-line t₀ at line t g h why r z (with_state t row) (stored-as state e ∙ ap (with_state t) (sym q));
-        kept = kept-state t g.kept row (leb-false 64 t.state_count p.room);
-        placed = next-placed state text from from-line t₀ at line t g h;
-        stage = (
-          g.stage.0,
-          λ k w. lt-ltb 0 (t.event_count + (t.state_count + 1) + t.cell_count) (omega arith),
-          λ k w. lt-ltb 0 (t.state_count + 1 + t.cell_count) (omega arith),
-        );
-      }
-
-  pub going-cell : Going cell text from from-line t₀ at line t → section_at text at ≡ cell → (why : Refusal) → Refuses t line (line_at text at) why → why.number ≡ 0
-      → (c : Cell) → c ≡ cell_of t (split 9 (line_at text at)) → CellOk t.message_count t.event_count t.state_count c
-      → Going cell text from from-line t₀ next (line + 1) (with_cell t c)
-  unfolding with_cell
-  going-cell g e why r z c q ok =
-      let p = passed-as cell why e r z in
-      record {
-        on = next-on cell text from from-line t₀ at line t g h why r z (with_cell t c) (stored-as cell e ∙ ap (with_cell t) (sym q));
-        kept = kept-cell t g.kept c (leb-false 512 t.cell_count p.room) ok;
-        placed = next-placed cell text from from-line t₀ at line t g h;
-        stage = (
-          λ k w. lt-ltb 0 (t.event_count + t.state_count + (t.cell_count + 1)) (omega arith),
-          λ k w. lt-ltb 0 (t.state_count + (t.cell_count + 1)) (omega arith),
-          λ k w. lt-ltb 0 (t.cell_count + 1) (omega arith),
-        );
-      }
+-- the section is left, at a line of another one or at the end of the text
+pub going-out : (c : CodeSection) (text : List ℕ) (from : LineStart) (t₀ : Tables) (at line : ℕ) (t : Tables)
+    → Going (section_lem c) text from.at from.line t₀ at line t → Leaves (section_lem c) text at → Came (section_lem c) text from t₀ (record { at = at; line = line }) t
+going-out c text from t₀ at line t g f = record { on = g.on; kept = g.kept; placed = g.placed; stage = leave c text at t g.stage f }

@@ -1,12 +1,17 @@
 -- Leaving a section's loop: at a line of another section, or at the end of the text.
-use Prim.Native.Nat.{ℕ, ◌≤◌, ◌<◌}
-use mathlib.Core.Path.{◌≡◌}
+use Prim.Native.Nat.{ℕ, ◌+◌, ◌≤◌, ◌<◌}
+use mathlib.Core.Path.{◌≡◌, refl}
+use mathlib.Core.Bool.{false}
+use borrow.Author.Tests.{le-ltb}
 use mathlib.Core.List.{List}
 use native.Mathlib.Omega.{arith}
 use lib.ListN.{length}
 use Rattle.tables.specs.declared.Tables.{Tables}
+use Rattle.protocol.specs.declared.sections.Section.{Section as CodeSection}
+use Rattle.protocol.specs.declared.sections.Section.TheVariants.{Message, Event, State, Cell}
+use Rattle.lines.specs.Checks.{later_read}
 use Rattle.lines.specs.Line.{Section, message, event, state, cell}
-use Rattle.protocol.specs.sections.Sections.{section_at, TooLate, Stage}
+use Rattle.protocol.specs.sections.Sections.{section_at, TooLate, Stage, StageAfter, section_lem}
 
 -- The next line is not of this section, or there is none.
 abbrev pub Leaves : Section → List ℕ → ℕ → Type 0
@@ -15,15 +20,18 @@ Leaves s text at = at < length text → section_at text at ≡ s → ⊥
 pub at-end : (s : Section) (text : List ℕ) (at : ℕ) → length text ≤ at → Leaves s text at
 at-end s text at h k e = omega arith
 
-module _ (text : List ℕ) (at : ℕ) (t : Tables) where
-  too-late : (s : Section) → Leaves s text at → TooLate s text at t
-  too-late s f h e = absurd (f h e)
+too-late : (text : List ℕ) (at : ℕ) (t : Tables) (s : Section) → Leaves s text at → TooLate s text at t
+too-late text at t s f h e = absurd (f h e)
 
-  pub leave-message : Stage message text at t → Leaves message text at → Stage event text at t
-  leave-message p f = (p.1, p.2, too-late message f)
+pub leave : (c : CodeSection) (text : List ℕ) (at : ℕ) (t : Tables) → Stage (section_lem c) text at t → Leaves (section_lem c) text at → StageAfter (section_lem c) text at t
+leave Message text at t p f = (p.1, p.2, too-late text at t message f)
+leave Event text at t p f = (p.1, p.2, too-late text at t event f)
+leave State text at t p f = (p.1, p.2, too-late text at t state f)
+leave Cell text at t p f = (p.0, p.1, p.2, too-late text at t cell f)
 
-  pub leave-event : Stage event text at t → Leaves event text at → Stage state text at t
-  leave-event p f = (p.1, p.2, too-late event f)
-
-  pub leave-state : Stage state text at t → Leaves state text at → Stage cell text at t
-  leave-state p f = (p.1, p.2, too-late state f)
+-- no later section was read
+pub no-later : (c : CodeSection) (text : List ℕ) (at : ℕ) (t : Tables) → Stage (section_lem c) text at t → later_read (section_lem c) t ≡ false
+no-later Message text at t p = le-ltb 0 (t.event_count + t.state_count + t.cell_count) (omega (arith, p.0, p.1, p.2))
+no-later Event text at t p = le-ltb 0 (t.state_count + t.cell_count) (omega (arith, p.0, p.1))
+no-later State text at t p = le-ltb 0 t.cell_count (omega (arith, p.0))
+no-later Cell text at t p = refl

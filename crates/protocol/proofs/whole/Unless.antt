@@ -3,8 +3,7 @@ use mathlib.Core.Path.{◌≡◌, ap}
 use mathlib.Core.Bool.{Bool, cond}
 use borrow.Author.Tests.{eq-eqb, ne_eqb}
 use Rattle.papers.specs.declared.Refusal.{Refusal}
-use Rattle.protocol.specs.declared.whole.Reading.{Reading}
-use Rattle.protocol.specs.whole.Whole.{refused, unless}
+use Rattle.protocol.specs.whole.Whole.{Reading, refused, unless}
 
 pub unless-passed : (r : Refusal) (a : Reading) → r.number ≡ 0 → unless r a ≡ a
 unless-passed r a e = ap (λ (b : Bool). cond b a (refused r)) (eq-eqb r.number 0 e)

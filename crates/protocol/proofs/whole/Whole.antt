@@ -12,13 +12,13 @@ use borrow.Author.Tests.{eq-eqb, ne_eqb, lt-ltb, le-ltb}
 use Rattle.rules.proofs.Entry.{no-entry?}
 use Rattle.text.specs.Parts.{first_index}
 use Rattle.text.proofs.Parts.{first-at, first-none, first-le, first-before, first_passes}
-use Rattle.papers.specs.Checks.{first_of, refusal}
+use Rattle.papers.specs.Checks.{first_of, refusal, none}
 use Rattle.tables.specs.declared.Cell.{Cell}
 use Rattle.tables.specs.declared.Tables.{Tables}
 use Rattle.tables.specs.Tables.{no_cell_lem}
 use Rattle.tables.specs.Cells.{as_rule_cell, cells_of, transient_of}
 use Rattle.tables.specs.Relations.{cell_at, FirstNoEntry}
-use Rattle.protocol.specs.whole.Whole.{refused, accepted, unless, has_no_entry, no_entry_at, cell_line_lem, whole_refusal}
+use Rattle.protocol.specs.whole.Whole.{has_no_entry, no_entry_at, cell_line_lem, whole_refusal}
 
 module _ {P : Type 0} where
   decided-yes : (d : Dec P) → P → decide d ≡ true
@@ -86,14 +86,14 @@ first-no-entry t long few =
     p : Cell → Bool
     p c = has_no_entry (transient_of t) (cells_of t) (as_rule_cell c)
 
-pub no-message : (t : Tables) → t.message_count ≡ 0 → unless (whole_refusal t) (accepted t) ≡ refused (refusal 12 0)
+pub no-message : (t : Tables) → t.message_count ≡ 0 → refusal 12 0 ≡ whole_refusal t
 unfolding whole_refusal first_of
 no-message t e = rw (eq-eqb t.message_count 0 e) refl
 
-pub no-entry : (t : Tables) (r : ℕ) → (t.message_count ≡ 0 → ⊥) → no_entry_at t ≡ r → r < t.cell_count → unless (whole_refusal t) (accepted t) ≡ refused (refusal 13 (cell_line_lem t r))
+pub no-entry : (t : Tables) (r : ℕ) → (t.message_count ≡ 0 → ⊥) → no_entry_at t ≡ r → r < t.cell_count → refusal 13 (cell_line_lem t r) ≡ whole_refusal t
 unfolding whole_refusal first_of
 no-entry t r g e h = rw (ne_eqb t.message_count 0 g, e, lt-ltb r t.cell_count h) refl
 
-pub all_right : (t : Tables) (r : ℕ) → (t.message_count ≡ 0 → ⊥) → no_entry_at t ≡ r → t.cell_count ≤ r → unless (whole_refusal t) (accepted t) ≡ accepted t
+pub all_right : (t : Tables) (r : ℕ) → (t.message_count ≡ 0 → ⊥) → no_entry_at t ≡ r → t.cell_count ≤ r → none ≡ whole_refusal t
 unfolding whole_refusal first_of
 all_right t r g e h = rw (ne_eqb t.message_count 0 g, e, le-ltb r t.cell_count h) refl

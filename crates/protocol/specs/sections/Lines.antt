@@ -3,8 +3,7 @@ use Rattle.std.specs.Prelude.{ℕ, suc, List, [], ◌∷◌}
 use Rattle.text.specs.Parts.{split}
 use Rattle.tables.specs.declared.Tables.{Tables}
 use Rattle.tables.specs.Tables.{with_message, with_event, with_state, with_cell}
-use Rattle.protocol.specs.declared.whole.Reading.{Reading}
-use Rattle.protocol.specs.whole.Whole.{accepted, unless, whole_refusal}
+use Rattle.protocol.specs.whole.Whole.{Reading, accepted, unless, whole_refusal}
 use Rattle.text.specs.Line.{Line}
 use Rattle.lines.specs.Line.{Section, message, event, state, cell, unknown, section_of, message_of, event_of, state_of, cell_of}
 use Rattle.lines.specs.Checks.{line_refusal}

@@ -2,8 +2,10 @@
 use Rattle.std.specs.Prelude.{ℕ, ◌+◌, ◌≤◌, ◌<◌, ◌≡◌, true, List, length}
 use Rattle.text.specs.Parts.{part, place, split}
 use Rattle.papers.specs.Lined.{Lined}
+use Rattle.protocol.specs.declared.sections.Section.{Section as CodeSection}
+use Rattle.protocol.specs.declared.sections.Section.TheVariants.{Message, Event, State, Cell}
 use Rattle.tables.specs.declared.Tables.{Tables}
-use Rattle.lines.specs.Line.{Section, message, event, state, cell, unknown, section_of}
+use Rattle.lines.specs.Line.{Section, message, event, state, cell, unknown, section_of, says_of}
 use Rattle.lines.specs.Checks.{later_read}
 
 -- A line, or the end, of a text that is not too big stands at the place `at`. `line` is at most two more than the place, so it can be counted on.
@@ -30,3 +32,23 @@ Stage event text at t = (t.state_count ≡ 0) × (t.cell_count ≡ 0) × TooLate
 Stage state text at t = (t.cell_count ≡ 0) × TooLate message text at t × TooLate event text at t
 Stage cell text at t = TooLate message text at t × TooLate event text at t × TooLate state text at t
 Stage unknown text at t = length text ≤ at
+
+-- The four sections were read, and no line of them follows that is not too late.
+abbrev pub AllRead : List ℕ → ℕ → Tables → Type 0
+AllRead text at t = TooLate message text at t × TooLate event text at t × TooLate state text at t × TooLate cell text at t
+
+-- A section was read to its end: the next one begins.
+abbrev pub StageAfter : Section → List ℕ → ℕ → Tables → Type 0
+StageAfter message text at t = Stage event text at t
+StageAfter event text at t = Stage state text at t
+StageAfter state text at t = Stage cell text at t
+StageAfter cell text at t = AllRead text at t
+StageAfter unknown text at t = Stage unknown text at t
+
+-- ---- the code's sections
+
+abbrev pub section_lem : CodeSection → Section
+section_lem Message = message
+section_lem Event = event
+section_lem State = state
+section_lem Cell = cell

@@ -1,15 +1,21 @@
 -- What a reading of a protocol text gives, and what is asked of the whole text.
-use Rattle.std.specs.Prelude.{ℕ, ◌+◌, Bool, cond, List, [], ◌∷◌, eqb, ltb}
+use Rattle.std.specs.Prelude.{ℕ, ◌+◌, Bool, cond, List, [], ◌∷◌, eqb, ltb, Result, Ok, Err}
 use Rattle.std.proofs.Math.Bool.{decide}
 use Rattle.rules.specs.Rules.{StateNo, Cell}
 use Rattle.rules.proofs.Entry.{no-entry?}
 use Rattle.text.specs.Parts.{first_index}
 use Rattle.papers.specs.declared.Refusal.{Refusal}
+use Rattle.papers.specs.declared.refused.Refused.{Refused}
+use Rattle.papers.specs.refused.Refused.{told_refusal}
 use Rattle.papers.specs.Checks.{Check, check, none, first_of}
 use Rattle.tables.specs.declared.Tables.{Tables}
 use Rattle.tables.specs.Tables.{cleared_tables}
 use Rattle.tables.specs.Cells.{cells_of, transient_of}
-use Rattle.protocol.specs.declared.whole.Reading.{Reading}
+
+-- What reading a protocol text gives: how it is refused, and the tables.
+pub record Reading : Type 0 where
+  pub refusal : Refusal
+  pub tables : Tables
 
 -- "A refusal returns number, paper, line": the refusal, and tables as they were cleared.
 abbrev pub refused : Refusal → Reading
@@ -17,6 +23,11 @@ refused r = record { refusal = r; tables = cleared_tables }
 
 abbrev pub accepted : Tables → Reading
 accepted t = record { refusal = none; tables = t }
+
+-- The reading that the code's answer is.
+abbrev pub reading_of : Result Tables Refused → Reading
+reading_of (Ok t) = accepted t
+reading_of (Err e) = refused (told_refusal e)
 
 -- The answer, where nothing is refused.
 abbrev pub unless : Refusal → Reading → Reading
