@@ -8,10 +8,6 @@ use lib.Seq.{get_or-set_same, get_or-set_other}
 use borrow.Author.Count.{below_more}
 use Rattle.rows.specs.Closure.{KeptFrom, Cleared}
 
--- what a cleared row is
-abbrev pub IsZero : ℕ → ℕ → Type 0
-IsZero i r = r ≡ 0
-
 -- ---- rows that stay
 
 pub kept-all : (n : ℕ) (rows : List ℕ) → KeptFrom n rows rows

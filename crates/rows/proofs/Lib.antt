@@ -3,6 +3,7 @@ pub mod Bits
 pub mod Given
 pub mod Counting
 pub mod FillingRows
+pub mod Front
 pub mod Determined
 pub mod Together
 pub mod Told

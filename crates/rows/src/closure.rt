@@ -40,12 +40,10 @@ fn round(t: &mut [u64], n: usize, k: usize) -> u64
 {
     let own = t[k];
     let mut count: u64 = 0;
-    let mut i: usize = 0;
-    while i < n {
-        let turn = joined(t[i], own, k, count);
-        t[i] = turn.row;
+    for row in t[..n].iter_mut() {
+        let turn = joined(*row, own, k, count);
+        *row = turn.row;
         count = turn.count;
-        i += 1;
     }
     count
 }
@@ -70,10 +68,8 @@ pub fn closure(t: &mut [u64], n: usize) -> usize
 {
     let held = crate::all_bits(t, n);
     let mut joins: usize = 0;
-    let mut k: usize = 0;
-    while k < n {
+    for k in 0..n {
         joins += round_of(t, n, k, held) as usize;
-        k += 1;
     }
     joins
 }

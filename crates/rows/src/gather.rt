@@ -4,6 +4,7 @@ ghost use Rattle.rows.specs.Rows.{Bit};
 ghost use Rattle.rows.specs.Gather.{Tidy, Spread, Gathered};
 
 // Each row whose place is in the set takes in the row. The next place is found by trailing zeros.
+// The loop counts no index: it goes over the bits of a word, and the library has no iterator of those.
 fn spread(row: u64, set: u64, rows: &mut [u64])
     requires { (b : ℕ) → Bit set b → b < length rows.old }
     ensures { Spread row set rows.old rows.new }
@@ -22,9 +23,7 @@ pub fn gather(given: &[u64], sets: &[u64], n: usize, rows: &mut [u64])
     ensures { Gathered n given.now sets.now rows.old rows.new }
 {
     crate::clear(rows, n);
-    let mut a: usize = 0;
-    while a < n {
+    for a in 0..n {
         spread(given[a], sets[a], rows);
-        a += 1;
     }
 }

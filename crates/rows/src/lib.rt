@@ -1,4 +1,5 @@
 // One row of bits, and rows cleared. Rows know only bit places: what a place stands for is for the caller to say.
+// A table is lent whole, with n beside it, and not its first n rows as a slice: the contracts tell of the rows from n on too (KeptFrom).
 #![tactic(auto)]
 
 pub mod closure;
@@ -72,10 +73,8 @@ pub fn all_bits(rows: &[u64], n: usize) -> u64
     ensures { AllBits n rows.now result }
 {
     let mut all: u64 = 0;
-    let mut a: usize = 0;
-    while a < n {
-        all = join(all, rows[a]);
-        a += 1;
+    for row in &rows[..n] {
+        all = join(all, *row);
     }
     all
 }
@@ -85,11 +84,7 @@ pub fn clear(rows: &mut [u64], n: usize)
     requires { (n ≤ 64) × (n ≤ length rows.old) }
     ensures { Cleared n rows.old rows.new }
 {
-    let mut i: usize = 0;
-    while i < n {
-        rows[i] = 0;
-        i += 1;
-    }
+    rows[..n].fill(0);
 }
 
 // How many bits are set.
