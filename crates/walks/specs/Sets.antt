@@ -1,8 +1,9 @@
 -- What is found on the way to the heights and to the shown cycle: rows that are sets of numbers, and tables of such sets.
-use Rattle.std.specs.Prelude.{ℕ, zero, suc, ◌+◌, ◌-◌, ◌<◌, ◌≤◌, ◌≡◌, ◌↔◌, List, length, get_or, take, drop}
+use Rattle.std.specs.Prelude.{ℕ, zero, suc, ◌+◌, ◌-◌, ◌<◌, ◌≤◌, ◌≡◌, ◌↔◌, Option, MatchOption, List, length, get_or, take, drop}
 use Rattle.rules.specs.Walks.{Rel, Plus, Exactly}
 use Rattle.rules.specs.Plan.{Closed, Shown}
 use Rattle.rows.specs.Rows.{Bit, Rows}
+use Rattle.walks.specs.declared.cycles.Start.{Start}
 
 -- The bits of r are the numbers below n from which a step of s leads into the set.
 pub record Into (s : List ℕ) (n set r : ℕ) : Type 0 where
@@ -30,10 +31,9 @@ pub record Levels (w : List ℕ) (n : ℕ) (sets : List ℕ) (r : ℕ) : Type 0 
   pub none : (m : ℕ) → ¬ StepsFrom (Rows n w) n r m
   pub some : (j : ℕ) → r ≡ suc j → (m : ℕ) × StepsFrom (Rows n w) n j m
 
--- The answer of `rounds`.
-pub record Rounds (w : List ℕ) (n : ℕ) (sets : List ℕ) (r : ℕ) : Type 0 where
-  pub cyclic : r ≡ 0 → (a : ℕ) × Plus (Rows n w) a a
-  pub levels : ¬ (r ≡ 0) → Levels w n sets r
+-- The answer of `rounds`: none where there is a cycle.
+abbrev pub Rounds : List ℕ → ℕ → List ℕ → Option ℕ → Type 0
+Rounds w n sets r = MatchOption r ((a : ℕ) × Plus (Rows n w) a a) (Levels w n sets)
 
 -- Of the first `count` sets, m is in the sets 0 to h, and not in the one after if there is one.
 pub record LastSet (sets : List ℕ) (count m h : ℕ) : Type 0 where
@@ -60,12 +60,16 @@ Reaches w s n x k v = (y : ℕ) × Rows n w x y × Exactly (Rows n s) k y v
 abbrev pub ClosedFrom : List ℕ → List ℕ → ℕ → ℕ → ℕ → Type 0
 ClosedFrom w s n x k = Reaches w s n x k x
 
--- The answer of `shortest`: the steps of the shortest closed walks that begin at x; 0 where none of at most `most` steps does.
-pub record Shortest (w s : List ℕ) (n x most r : ℕ) : Type 0 where
+-- The shortest closed walks that begin at x have r steps, at least one and at most `most`.
+pub record ShortestAre (w s : List ℕ) (n x most r : ℕ) : Type 0 where
+  pub some : 1 ≤ r
   pub fits : r ≤ most
-  pub none : r ≡ 0 → (k : ℕ) → k < most → ¬ ClosedFrom w s n x k
-  pub opens : ¬ (r ≡ 0) → ClosedFrom w s n x (r - 1)
-  pub none_shorter : ¬ (r ≡ 0) → (k : ℕ) → suc k < r → ¬ ClosedFrom w s n x k
+  pub opens : ClosedFrom w s n x (r - 1)
+  pub none_shorter : (k : ℕ) → suc k < r → ¬ ClosedFrom w s n x k
+
+-- The answer of `shortest`: none where no closed walk of at most `most` steps begins at x.
+abbrev pub Shortest : List ℕ → List ℕ → ℕ → ℕ → ℕ → Option ℕ → Type 0
+Shortest w s n x most r = MatchOption r ((k : ℕ) → k < most → ¬ ClosedFrom w s n x k) (ShortestAre w s n x most)
 
 -- The set at place k of the table has the numbers from which x is reached in exactly k steps, for k below len.
 abbrev pub Layers : List ℕ → ℕ → ℕ → ℕ → List ℕ → Type 0
@@ -76,6 +80,17 @@ pub record FoundAt (w s : List ℕ) (n len x : ℕ) : Type 0 where
   pub opens : ClosedFrom w s n x (len - 1)
   pub none_shorter : (m : List ℕ) → Closed (Rows n w) (Rows n s) m → len ≤ length m
   pub none_before : (m : List ℕ) → Closed (Rows n w) (Rows n s) m → length m ≡ len → x ≤ get_or m 0 0
+
+-- The shortest closed walks of all, and the least number that one of them begins with.
+pub record StartIs (w s : List ℕ) (n : ℕ) (b : Start) : Type 0 where
+  pub some : 1 ≤ b.len
+  pub fits : b.len ≤ n
+  pub below : b.at < n
+  pub found : FoundAt w s n b.len b.at
+
+-- The answer of `best_start`: none where there is no closed walk.
+abbrev pub BestStart : List ℕ → List ℕ → ℕ → Option Start → Type 0
+BestStart w s n r = MatchOption r ((m : List ℕ) → ¬ Closed (Rows n w) (Rows n s) m) (StartIs w s n)
 
 -- The answer of `show`.
 pub record Drawn (w s : List ℕ) (n len : ℕ) (old new : List ℕ) : Type 0 where

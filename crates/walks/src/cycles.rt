@@ -2,9 +2,19 @@
 ghost use Rattle.std.specs.Prelude.{◌<◌, ◌≤◌, length};
 ghost use Rattle.rows.specs.Closure.{KeptFrom, Cleared};
 ghost use Rattle.walks.specs.Walks.{Within, Cycle};
-ghost use Rattle.walks.specs.Sets.{Below, After, Shortest, Layers, FoundAt, Drawn};
+ghost use Rattle.walks.specs.Sets.{Below, After, Shortest, StartIs, BestStart, Layers, Drawn};
+
+// Where the shortest closed walks begin.
+#[derive(Clone, Copy)]
+struct Start {
+    // how many steps they have
+    len: usize,
+    // the least number that one of them begins with
+    at: usize,
+}
 
 // The numbers below n to which a step of s leads from a number of the set.
+// The loop counts no index: it goes over the bits of a word, and the library has no iterator of those.
 fn after(s: &[u64], n: usize, set: u64) -> u64
     requires le_n { (1 ≤ n) × (n ≤ 64) × (n ≤ length s.now) }
     requires below { Below n set }
@@ -20,103 +30,100 @@ fn after(s: &[u64], n: usize, set: u64) -> u64
     rows::meet(r, rows::all_below(n))
 }
 
-// The length of the shortest closed walks that begin at x with a step of w, if it is at most `most`; else 0.
-fn shortest(w: &[u64], s: &[u64], n: usize, x: usize, most: usize) -> usize
+// The length of the shortest closed walks that begin at x with a step of w, if it is at most `most`.
+fn shortest(w: &[u64], s: &[u64], n: usize, x: usize, most: usize) -> Option<usize>
     requires { (n ≤ 64) × (x < n) × (most ≤ n) × (n ≤ length w.now) × (n ≤ length s.now) }
     ensures { Shortest w.now s.now n x most result }
 {
     if most == 0 {
-        return 0;
+        return None;
     }
     let mut set: u64 = rows::meet(w[x], rows::all_below(n));
-    let mut k: usize = 0;
-    while !rows::has(set, x) {
-        if set == 0 {
-            return 0;
+    for k in 1..most {
+        if rows::has(set, x) {
+            return Some(k);
         }
-        k += 1;
-        if k == most {
-            return 0;
+        if set == 0 {
+            return None;
         }
         set = after(s, n, set);
     }
-    k + 1
+    if rows::has(set, x) { Some(most) } else { None }
 }
 
-// Fills the table: at each place k below len, the numbers from which x is reached in exactly k steps of s.
-fn layers(s: &[u64], n: usize, x: usize, len: usize, sets: &mut [u64])
-    requires { (n ≤ 64) × (x < n) × (len ≤ n) × (n ≤ length s.now) × (n ≤ length sets.old) }
-    ensures layers { Layers s.now n x len sets.new }
+// Fills the table: at each place k below the length, the numbers from which the start is reached in exactly k steps of s.
+fn layers(s: &[u64], n: usize, best: Start, sets: &mut [u64])
+    requires { (n ≤ 64) × (best.at < n) × (best.len ≤ n) × (n ≤ length s.now) × (n ≤ length sets.old) }
+    ensures layers { Layers s.now n best.at best.len sets.new }
     ensures kept_from { KeptFrom n sets.old sets.new }
 {
-    let mut set: u64 = rows::with_bit(0, x);
-    let mut k: usize = 0;
+    let mut set: u64 = rows::with_bit(0, best.at);
     sets[0] = set;
-    while k + 1 < len {
+    for k in 1..best.len {
         set = crate::into(s, n, set);
-        k += 1;
         sets[k] = set;
     }
 }
 
-// Writes the shown cycle: x, and at each further place the lowest number that follows and from which x is reached in the steps that are left.
-fn show(w: &[u64], s: &[u64], n: usize, len: usize, x: usize, sets: &[u64], out: &mut [u8])
-    requires n_bound { (n ≤ 64) × (x < n) × (1 ≤ len) × (len ≤ n) × (n ≤ length w.now) × (n ≤ length s.now) × (n ≤ length sets.now) × (n ≤ length out.old) }
+// Writes the shown cycle: the start, and at each further place the lowest number that follows and from which the start is reached in the steps
+// that are left.
+fn show(w: &[u64], s: &[u64], n: usize, best: Start, sets: &[u64], out: &mut [u8])
+    requires n_bound { (n ≤ 64) × (n ≤ length w.now) × (n ≤ length s.now) × (n ≤ length sets.now) × (n ≤ length out.old) }
     requires within { Within n w.now s.now }
-    requires found_at { FoundAt w.now s.now n len x }
-    requires layers { Layers s.now n x len sets.now }
-    ensures { Drawn w.now s.now n len out.old out.new }
+    requires best { StartIs w.now s.now n best }
+    requires layers { Layers s.now n best.at best.len sets.now }
+    ensures { Drawn w.now s.now n best.len out.old out.new }
 {
-    out[0] = x as u8;
-    let mut row = w[x];
-    let mut i: usize = 1;
-    while i < len {
-        let z = rows::lowest(rows::meet(row, sets[len - i]));
+    out[0] = best.at as u8;
+    let mut row = w[best.at];
+    for i in 1..best.len {
+        let z = rows::lowest(rows::meet(row, sets[best.len - i]));
         out[i] = z as u8;
         row = s[z];
-        i += 1;
     }
 }
 
-// Writes the shown cycle of len numbers that begins at x.
-fn draw(w: &[u64], s: &[u64], n: usize, len: usize, x: usize, sets: &mut [u64], out: &mut [u8])
-    requires n_bound { (n ≤ 64) × (x < n) × (1 ≤ len) × (len ≤ n) × (n ≤ length w.now) × (n ≤ length s.now) × (n ≤ length sets.old) × (n ≤ length out.old) }
+// Writes the shown cycle.
+fn draw(w: &[u64], s: &[u64], n: usize, best: Start, sets: &mut [u64], out: &mut [u8])
+    requires n_bound { (n ≤ 64) × (n ≤ length w.now) × (n ≤ length s.now) × (n ≤ length sets.old) × (n ≤ length out.old) }
     requires within { Within n w.now s.now }
-    requires found_at { FoundAt w.now s.now n len x }
-    ensures drawn { Drawn w.now s.now n len out.old out.new }
+    requires best { StartIs w.now s.now n best }
+    ensures drawn { Drawn w.now s.now n best.len out.old out.new }
     ensures cleared { Cleared n sets.old sets.new }
 {
-    layers(s, n, x, len, sets);
-    show(w, s, n, len, x, sets, out);
+    layers(s, n, best, sets);
+    show(w, s, n, best, sets, out);
     rows::clear(sets, n);
 }
 
-// Writes the shown cycle of steps of s whose first step is one of w, and returns its length; 0 where there is none, and then writes nothing.
-// At each start only walks shorter than the best so far are searched, so the least start is kept.
+// The best start of all: at each start only walks shorter than the best so far are searched, so the least start is kept.
+fn best_start(w: &[u64], s: &[u64], n: usize) -> Option<Start>
+    requires { (n ≤ 64) × (n ≤ length w.now) × (n ≤ length s.now) }
+    ensures { BestStart w.now s.now n result }
+{
+    let mut best: Option<Start> = None;
+    let mut most: usize = n;
+    for x in 0..n {
+        if let Some(len) = shortest(w, s, n, x, most) {
+            best = Some(Start { len: len, at: x });
+            most = len - 1;
+        }
+    }
+    best
+}
+
+// Writes the shown cycle of steps of s whose first step is one of w, and returns its length. Where there is none, nothing is written.
 // The sets are kept in the rows lent, of which the first n are cleared at the end.
-pub fn cycle(w: &[u64], s: &[u64], n: usize, sets: &mut [u64], out: &mut [u8]) -> usize
+pub fn cycle(w: &[u64], s: &[u64], n: usize, sets: &mut [u64], out: &mut [u8]) -> Option<usize>
     requires n_bound { (n ≤ 64) × (n ≤ length w.now) × (n ≤ length s.now) × (n ≤ length sets.old) × (n ≤ length out.old) }
     requires within { Within n w.now s.now }
     ensures cycle { Cycle w.now s.now n out.old out.new result }
     ensures cleared { Cleared n sets.old sets.new }
 {
-    let mut len: usize = 0;
-    let mut start: usize = 0;
-    let mut most: usize = n;
-    let mut x: usize = 0;
-    while x < n {
-        let r = shortest(w, s, n, x, most);
-        if r != 0 {
-            len = r;
-            start = x;
-            most = r - 1;
-        }
-        x += 1;
-    }
-    if len == 0 {
+    let Some(best) = best_start(w, s, n) else {
         rows::clear(sets, n);
-        return 0;
-    }
-    draw(w, s, n, len, start, sets, out);
-    len
+        return None;
+    };
+    draw(w, s, n, best, sets, out);
+    Some(best.len)
 }

@@ -6,6 +6,7 @@ ghost use Rattle.walks.specs.Walks.{Heights};
 ghost use Rattle.walks.specs.Sets.{Below, Staying, Rounds, LastSet, Written};
 
 // The numbers of the set, which are below n, from which a step leads into the set.
+// The loop counts no index: it goes over the bits of a word, and the library has no iterator of those.
 fn staying(w: &[u64], n: usize, set: u64) -> u64
     requires { (n ≤ 64) × (n ≤ length w.now) × Below n set }
     ensures { Staying w.now set result }
@@ -23,27 +24,25 @@ fn staying(w: &[u64], n: usize, set: u64) -> u64
 }
 
 // Keeps, round after round, the numbers from which a step leads to one that was kept: at round k a chain of k steps starts at each.
-// Returns the round at which none is left. Where a round loses nobody, or somebody is left at round n, there is a cycle, and the answer is 0.
-fn rounds(w: &[u64], n: usize, sets: &mut [u64]) -> usize
+// Returns the round at which none is left. Where a round loses nobody, or somebody is left at round n, there is a cycle, and no such round.
+fn rounds(w: &[u64], n: usize, sets: &mut [u64]) -> Option<usize>
     requires { (1 ≤ n) × (n ≤ 64) × (n ≤ length w.now) × (n ≤ length sets.old) }
     ensures rounds { Rounds w.now n sets.new result }
     ensures kept_from { KeptFrom n sets.old sets.new }
 {
     let mut set: u64 = rows::all_below(n);
-    let mut k: usize = 0;
-    while k < n {
+    for k in 0..n {
         sets[k] = set;
         let next = staying(w, n, set);
-        k += 1;
         if next == 0 {
-            return k;
+            return Some(k + 1);
         }
         if next == set {
-            return 0;
+            return None;
         }
         set = next;
     }
-    0
+    None
 }
 
 // The last of the first `count` sets, one after the other, that m is in.
@@ -52,11 +51,11 @@ fn last(sets: &[u64], count: usize, m: usize) -> usize
     ensures { LastSet sets.now count m result }
 {
     let mut h: usize = 0;
-    while h + 1 < count {
-        if !rows::has(sets[h + 1], m) {
+    for next in 1..count {
+        if !rows::has(sets[next], m) {
             return h;
         }
-        h += 1;
+        h = next;
     }
     h
 }
@@ -67,26 +66,23 @@ fn write(sets: &[u64], count: usize, n: usize, out: &mut [u8])
     requires by_index { (m : ℕ) → m < n → Bit (get_or sets.now 0 0) m }
     ensures { Written sets.now count n out.old out.new }
 {
-    let mut m: usize = 0;
-    while m < n {
+    for m in 0..n {
         out[m] = last(sets, count, m) as u8;
-        m += 1;
     }
 }
 
-// Writes the height of each number below n, and returns how many numbers the longest chain has; 0 where there is a cycle, and then writes nothing.
+// Writes the height of each number below n, and returns how many numbers the longest chain has. Where there is a cycle there is no longest
+// chain, and nothing is written.
 // The sets are kept in the rows lent, so that a small host has no table more; the first n of these are cleared at the end.
-pub fn heights(w: &[u64], n: usize, sets: &mut [u64], out: &mut [u8]) -> usize
+pub fn heights(w: &[u64], n: usize, sets: &mut [u64], out: &mut [u8]) -> Option<usize>
     requires { (1 ≤ n) × (n ≤ 64) × (n ≤ length w.now) × (n ≤ length sets.old) × (n ≤ length out.old) }
     ensures heights { Heights w.now n out.old out.new result }
     ensures cleared { Cleared n sets.old sets.new }
 {
-    let k = rounds(w, n, sets);
-    if k == 0 {
-        rows::clear(sets, n);
-        return 0;
+    let count = rounds(w, n, sets);
+    if let Some(k) = count {
+        write(sets, k, n, out);
     }
-    write(sets, k, n, out);
     rows::clear(sets, n);
-    k
+    count
 }

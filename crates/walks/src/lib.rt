@@ -14,12 +14,10 @@ pub(crate) fn into(s: &[u64], n: usize, set: u64) -> u64
     ensures { Into s.now n set result }
 {
     let mut r: u64 = 0;
-    let mut y: usize = 0;
-    while y < n {
-        if rows::meet(s[y], set) != 0 {
+    for (y, row) in s[..n].iter().enumerate() {
+        if rows::meet(*row, set) != 0 {
             r = rows::with_bit(r, y);
         }
-        y += 1;
     }
     r
 }

@@ -43,12 +43,12 @@ module _ (s : List ℕ) (n x : ℕ) where
       first zero q = rw (get_or-set_same sets 0 v 0 (omega arith)) f
       first (suc k) q = absurd (omega arith)
 
-  pub layers-step : (old sets : List ℕ) (now k next : ℕ) → x < n → n ≤ length old → k + 1 < n → Into s n now next → LayersInv old sets now k → LayersInv old (set sets (k + 1) next) next (k + 1)
-  layers-step old sets now k next hx room hk i inv = record {
+  pub layers-step : (old sets : List ℕ) (now k next at : ℕ) → at ≡ k + 1 → x < n → n ≤ length old → at < n → Into s n now next → LayersInv old sets now k → LayersInv old (set sets at next) next at
+  layers-step old sets now k next at e hx room hk i inv = record {
     small = hk;
-    kept = kept_store n old sets (k + 1) next hk inv.kept;
-    now-is = rw (add-one k) next-is;
-    layers = λ j h. go j h (ℕ_discrete j (k + 1));
+    kept = kept_store n old sets at next hk inv.kept;
+    now-is = rw (e, add-one k) next-is;
+    layers = λ j h. go j h (ℕ_discrete j at);
   }
     where
       next-is : Layer (suc k) next
@@ -57,9 +57,9 @@ module _ (s : List ℕ) (n x : ℕ) where
         λ t. (i.bits y).1 (t.1.i_below, (t.0, t.1.bit, (inv.now-is t.0).1 t.2)),
       )
 
-      go : (j : ℕ) → j < k + 1 + 1 → Dec (j ≡ k + 1) → Layer j (get_or (set sets (k + 1) next) j 0)
-      go j h (yes e) = rw (e, get_or-set_same sets (k + 1) next 0 (omega (arith, inv.kept.long)), add-one k) next-is
-      go j h (no q) = rw (get_or-set_other sets (k + 1) j next 0 q) (inv.layers j (omega arith))
+      go : (j : ℕ) → j < at + 1 → Dec (j ≡ at) → Layer j (get_or (set sets at next) j 0)
+      go j h (yes f) = rw (f, get_or-set_same sets at next 0 (omega (arith, inv.kept.long)), e, add-one k) next-is
+      go j h (no q) = rw (get_or-set_other sets at j next 0 q) (inv.layers j (omega arith))
 
   pub layers-end : (old sets : List ℕ) (now k len : ℕ) → len ≤ k + 1 → LayersInv old sets now k → Layers s n x len sets
   layers-end old sets now k len h inv = λ j q. inv.layers j (omega arith)

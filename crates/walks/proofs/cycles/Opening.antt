@@ -7,6 +7,7 @@ use native.Mathlib.Decide.{ℕ_discrete, dec_le}
 use native.Mathlib.Omega.{arith}
 use native.Mathlib.Numerals.{add-one}
 use lib.ListN.{get_or}
+use Rattle.std.specs.Prelude.{Some, None}
 use Rattle.rules.specs.Walks.{Rel, Exactly}
 use Rattle.rows.specs.Rows.{Bit, Rows}
 use Rattle.rows.specs.Row.{Meet, AllBelow}
@@ -47,8 +48,8 @@ module _ (w s : List ℕ) (n x : ℕ) where
     pub none : (j : ℕ) → j < k → ¬ ClosedFrom w s n x j
 
   -- no walk is looked for
-  pub short-off : (most : ℕ) → most ≡ 0 → Shortest w s n x most 0
-  short-off most z = record { fits = omega arith; none = λ _ k h. absurd (omega arith); opens = λ d. absurd (d refl); none_shorter = λ d. absurd (d refl) }
+  pub short-off : (most : ℕ) → most ≡ 0 → Shortest w s n x most None
+  short-off most z k h = absurd (omega arith)
 
   pub short-start : (most all row : ℕ) → x < n → most ≢ 0 → AllBelow n all → Meet (get_or w x 0) all row → ShortInv most row 0
   short-start most all row hx d below both = record {
@@ -65,14 +66,14 @@ module _ (w s : List ℕ) (n x : ℕ) where
     front_below z b = goes_small k z ((inv.now-is z).0 b)
 
     -- the walk is closed
-    pub short-found : Bit now x → Shortest w s n x most (k + 1)
-    short-found b =
-        let q : k ≡ k + 1 - 1 = omega arith in
+    pub short-found : (len : ℕ) → len ≡ k + 1 → Bit now x → Shortest w s n x most (Some len)
+    short-found len e b =
+        let q : k ≡ len - 1 = omega arith in
         record {
+          some = omega arith;
           fits = omega (arith, inv.at_most);
-          none = λ z. absurd (omega (arith, z));
-          opens = λ _. subst (ClosedFrom w s n x) q ((inv.now-is x).0 b);
-          none_shorter = λ _ j h. inv.none j (omega arith);
+          opens = subst (ClosedFrom w s n x) q ((inv.now-is x).0 b);
+          none_shorter = λ j h. inv.none j (omega arith);
         }
 
     module _ (apart : ¬ Bit now x) where
@@ -84,8 +85,8 @@ module _ (w s : List ℕ) (n x : ℕ) where
           go (no d) = inv.none j (omega arith)
 
       -- no step leads on
-      pub short-empty : now ≡ 0 → Shortest w s n x most 0
-      short-empty z = record { fits = omega arith; none = λ _ j h. go j (dec_le j k); opens = λ d. absurd (d refl); none_shorter = λ d. absurd (d refl) }
+      pub short-empty : now ≡ 0 → Shortest w s n x most None
+      short-empty z j h = go j (dec_le j k)
         where
           go : (j : ℕ) → Dec (j ≤ k) → ¬ ClosedFrom w s n x j
           go j (yes h) = none_yet j h
@@ -94,11 +95,11 @@ module _ (w s : List ℕ) (n x : ℕ) where
               bit-zero u.0 (subst (λ (row : ℕ). Bit row u.0) z ((inv.now-is u.0).1 (t.0, t.1, u.1)))
 
       -- no length is left
-      pub short-full : k + 1 ≡ most → Shortest w s n x most 0
-      short-full e = record { fits = omega arith; none = λ _ j h. none_yet j (omega arith); opens = λ d. absurd (d refl); none_shorter = λ d. absurd (d refl) }
+      pub short-full : k + 1 ≡ most → Shortest w s n x most None
+      short-full e j h = none_yet j (omega arith)
 
-      pub short-step : (next : ℕ) → ¬ (k + 1 ≡ most) → After s n now next → ShortInv most next (k + 1)
-      short-step next d i = record { at_most = omega (arith, inv.at_most); now-is = rw (add-one k) next-is; none = λ j h. none_yet j (omega arith) }
+      pub short-step : (next len : ℕ) → len ≡ k + 1 → len < most → After s n now next → ShortInv most next len
+      short-step next len e d i = record { at_most = d; now-is = rw (e, add-one k) next-is; none = λ j h. none_yet j (omega arith) }
         where
           next-is : Front (suc k) next
           next-is v = (

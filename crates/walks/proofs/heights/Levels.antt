@@ -9,6 +9,7 @@ use native.Mathlib.Nat.{zero-add, suc-add}
 use native.Mathlib.Numerals.{add-one}
 use lib.ListN.{length, get_or, set, drop, length-set}
 use lib.Seq.{get_or-set_same, get_or-set_other, drop-set-lt}
+use Rattle.std.specs.Prelude.{Some, None}
 use Rattle.rules.specs.Lists.{Distinct}
 use Rattle.rules.specs.Walks.{Rel, Chain, Plus}
 use Rattle.rules.specs.Plan.{Height}
@@ -170,9 +171,6 @@ module _ (w : List ℕ) (n : ℕ) where
   pub all-cycle : (m : ℕ) → Can n m → (a : ℕ) × Plus (Rows n w) a a
   all-cycle m s = long-cycle (Rows n w) n (rows-within n w) m s
 
-  cyclic-rounds : (sets : List ℕ) → (a : ℕ) × Plus (Rows n w) a a → Rounds w n sets 0
-  cyclic-rounds sets t = record { cyclic = λ _. t; levels = λ d. absurd (d refl) }
-
   module _ (old sets : List ℕ) (now k next : ℕ) (room : n ≤ length old) (hk : k < n) (inv : RoundsInv old sets now k) (i : Staying w now next) where
     -- the set of round k is stored
     abbrev sets' : List ℕ
@@ -189,23 +187,20 @@ module _ (w : List ℕ) (n : ℕ) where
     rounds-kept = kept_store n old sets k now hk inv.kept
 
     -- the round lost nobody
-    pub rounds-stuck : next ≡ now → Rounds w n (set sets k now) 0
+    pub rounds-stuck : next ≡ now → Rounds w n (set sets k now) None
     rounds-stuck e =
         let stay : (m : ℕ) → Can k m → Can (suc k) m = λ m s. (next-are now next k inv.now-is i m).0 (rw e ((inv.now-is m).1 s)) in
         let f : n - k + k ≡ n = omega arith in
         let t = inv.some in
-        cyclic-rounds sets' (all-cycle t.0 (subst (λ (j : ℕ). Can j t.0) f (steps-stay (Rows n w) n (rows-within n w) k stay (n - k) t.0 t.1)))
+        (all-cycle t.0 (subst (λ (j : ℕ). Can j t.0) f (steps-stay (Rows n w) n (rows-within n w) k stay (n - k) t.0 t.1)))
 
     -- nobody is left
-    pub rounds-end : next ≡ 0 → Rounds w n (set sets k now) (k + 1)
+    pub rounds-end : next ≡ 0 → Rounds w n (set sets k now) (Some (k + 1))
     rounds-end e = record {
-      cyclic = λ z. absurd (omega (arith, z));
-      levels = λ _. record {
-        fits = omega arith;
-        sets_are = stored;
-        none = λ m s. bit-zero m (subst (λ (row : ℕ). Bit row m) e ((next-are now next k inv.now-is i m).1 (rw (add-one k) at s)));
-        some = λ j q. rw (same j q) inv.some;
-      };
+      fits = omega arith;
+      sets_are = stored;
+      none = λ m s. bit-zero m (subst (λ (row : ℕ). Bit row m) e ((next-are now next k inv.now-is i m).1 (rw (add-one k) at s)));
+      some = λ j q. rw (same j q) inv.some;
     }
       where
         same : (j : ℕ) → k + 1 ≡ suc j → j ≡ k
@@ -221,11 +216,11 @@ module _ (w : List ℕ) (n : ℕ) where
     }
 
   -- somebody is left at round n
-  pub rounds-full : (old sets : List ℕ) (now k : ℕ) → n ≤ k → RoundsInv old sets now k → Rounds w n sets 0
+  pub rounds-full : (old sets : List ℕ) (now k : ℕ) → n ≤ k → RoundsInv old sets now k → Rounds w n sets None
   rounds-full old sets now k h inv =
       let e : k ≡ n = omega (arith, inv.at_most) in
       let t = inv.some in
-      cyclic-rounds sets (all-cycle t.0 (subst (λ (j : ℕ). Can j t.0) e t.1))
+      (all-cycle t.0 (subst (λ (j : ℕ). Can j t.0) e t.1))
 
 -- ---- the loop of `last`
 
@@ -240,20 +235,21 @@ module _ (sets : List ℕ) (count m : ℕ) where
       none : (j : ℕ) → j ≤ 0 → j ≡ 0
       none j q = omega arith
 
-  pub last_step : (h : ℕ) → h + 1 < count → Bit (get_or sets (h + 1) 0) m → LastInv sets count m h → LastInv sets count m (h + 1)
-  last_step h l e inv = record { small = l; in_it = λ j q. pick j q (ℕ_discrete j (h + 1)) }
-    where
-      pick : (j : ℕ) → j ≤ h + 1 → Dec (j ≡ h + 1) → Bit (get_or sets j 0) m
-      pick j q (yes f) = rw f e
-      pick j q (no d) = inv.in_it j (omega arith)
+  module _ (h next : ℕ) (is : next ≡ h + 1) (inv : LastInv sets count m h) where
+    pub last_step : next < count → Bit (get_or sets next 0) m → LastInv sets count m next
+    last_step l e = record { small = l; in_it = λ j q. pick j q (ℕ_discrete j next) }
+      where
+        pick : (j : ℕ) → j ≤ next → Dec (j ≡ next) → Bit (get_or sets j 0) m
+        pick j q (yes f) = rw f e
+        pick j q (no d) = inv.in_it j (omega arith)
 
-  -- it is not in the next set
-  pub last_found : (h : ℕ) → ¬ Bit (get_or sets (h + 1) 0) m → LastInv sets count m h → LastSet sets count m h
-  last_found h d inv = record { small = inv.small; in_it = inv.in_it; not_next = λ _. d }
+    -- it is not in the next set
+    pub last_found : ¬ Bit (get_or sets next 0) m → LastSet sets count m h
+    last_found d = record { small = inv.small; in_it = inv.in_it; not_next = λ _. subst (λ (k : ℕ). ¬ Bit (get_or sets k 0) m) is d }
 
-  -- there is no next set
-  pub last_end : (h : ℕ) → count ≤ h + 1 → LastInv sets count m h → LastSet sets count m h
-  last_end h d inv = record { small = inv.small; in_it = inv.in_it; not_next = λ l. absurd (omega (arith, d, l)) }
+    -- there is no next set
+    pub last_end : count ≤ next → LastSet sets count m h
+    last_end d = record { small = inv.small; in_it = inv.in_it; not_next = λ l. absurd (omega arith) }
 
 -- ---- the loop of `write`
 
@@ -307,31 +303,28 @@ module _ (w : List ℕ) (n : ℕ) (sets : List ℕ) (r : ℕ) (levels : Levels w
         let c = steps-chain (Rows n w) n (rows-within n w) h m ((levels.sets_are h (omega (arith, last-below)) m).0 (l.in_it h (omega arith))) in
         record { rest = c.0; chain = c.1; steps = c.2; longest = λ k q. last-most (length k) (chain_steps (Rows n w) n (rows-within n w) m k hm q) }
 
-pub heights-some : (w : List ℕ) (n : ℕ) (sets old new : List ℕ) (r : ℕ) → ¬ (r ≡ 0) → length new ≡ length old → Levels w n sets r → Written sets r n old new → Heights w n old new r
-heights-some w n sets old new r d e levels wr = record {
+-- there is a round at which none is left
+pub levels-some : (w : List ℕ) (n : ℕ) (sets : List ℕ) (r : ℕ) → 1 ≤ n → Levels w n sets r → 1 ≤ r
+levels-some w n sets zero h levels = absurd (levels.none 0 (omega arith))
+levels-some w n sets (suc r) h levels = omega arith
+
+pub heights-some : (w : List ℕ) (n : ℕ) (sets old new : List ℕ) (r : ℕ) → 1 ≤ n → length new ≡ length old → Levels w n sets r → Written sets r n old new → Heights w n old new (Some r)
+heights-some w n sets old new r some e levels wr = record {
   long = e;
-  cyclic = λ z. absurd (d z);
-  kept = λ z. absurd (d z);
-  height = λ _ m h. last-height w n sets r levels m (get_or new m 0) h (wr.last m h);
-  below = λ _ m h. last-below w n sets r levels m (get_or new m 0) h (wr.last m h);
-  greatest = λ _. top;
-  rest = λ _. wr.rest;
+  told = record {
+    height = λ m h. last-height w n sets r levels m (get_or new m 0) h (wr.last m h);
+    below = λ m h. last-below w n sets r levels m (get_or new m 0) h (wr.last m h);
+    greatest = top;
+    rest = wr.rest;
+  };
 }
   where
     top : (m : ℕ) × (m < n) × (suc (get_or new m 0) ≡ r)
     top =
-        let t = levels.some (r - 1) (omega arith) in
+        let t = levels.some (r - 1) (omega (arith, levels-some w n sets r some levels)) in
         let h = steps-small (Rows n w) n (rows-within n w) (r - 1) t.0 t.1 in
         let l = wr.last t.0 h in
         (t.0, h, omega (arith, last-most w n sets r levels t.0 (get_or new t.0 0) h l (r - 1) t.1, last-below w n sets r levels t.0 (get_or new t.0 0) h l))
 
-pub heights-none : (w : List ℕ) (n : ℕ) (old : List ℕ) → (a : ℕ) × Plus (Rows n w) a a → Heights w n old old 0
-heights-none w n old t = record {
-  long = refl;
-  cyclic = λ _. t;
-  kept = λ _. refl;
-  height = λ d. absurd (d refl);
-  below = λ d. absurd (d refl);
-  greatest = λ d. absurd (d refl);
-  rest = λ d. absurd (d refl);
-}
+pub heights-none : (w : List ℕ) (n : ℕ) (old : List ℕ) → (a : ℕ) × Plus (Rows n w) a a → Heights w n old old None
+heights-none w n old t = record { long = refl; told = record { cyclic = t; kept = refl } }

@@ -4,7 +4,4 @@ use Rattle.walks.proofs.cycles.Layering.{LayersInv}
 use Rattle.walks.proofs.cycles.layers.Given as goal
 
 abbrev pub invariant-loop-k : goal.invariant-loop-k
-invariant-loop-k l = LayersInv l.s l.n l.x l.initial.sets l.sets l.set l.k
-
-abbrev pub decreases-loop-k : goal.decreases-loop-k
-decreases-loop-k l = l.len - l.k
+invariant-loop-k l = LayersInv l.s l.n l.fn.best.at l.initial.sets l.sets l.set (l.k - 1)

@@ -1,10 +1,6 @@
 -- `walks::heights::rounds` meets its contract.
-use Prim.Native.Nat.{◌-◌}
 use Rattle.walks.proofs.heights.Levels.{RoundsInv}
 use Rattle.walks.proofs.heights.rounds.Given as goal
 
 abbrev pub invariant-loop-k : goal.invariant-loop-k
 invariant-loop-k l = RoundsInv l.w l.n l.initial.sets l.sets l.set l.k
-
-abbrev pub decreases-loop-k : goal.decreases-loop-k
-decreases-loop-k l = l.n - l.k
