@@ -20,8 +20,8 @@ fn plan_rows(
     ensures { WaitsPlan n waits.now joins out.old out.new result }
 {
     let sum = waits::pairs(waits, n);
-    let networks = walks::heights::heights(waits, n, sets, out);
-    if networks != 0 {
+    let found = walks::heights::heights(waits, n, sets, out);
+    if let Some(networks) = found {
         return RelationsAnswer {
             number: 0,
             length: n,
@@ -31,7 +31,8 @@ fn plan_rows(
             joins: joins,
         };
     }
-    let len = walks::cycles::cycle(waits, waits, n, sets, out);
+    // where there are no heights there is a cycle
+    let len = walks::cycles::cycle(waits, waits, n, sets, out).unwrap();
     RelationsAnswer {
         number: 0,
         length: len,

@@ -16,7 +16,9 @@ use Rattle.rows.specs.Rows.{Bit, Rows, of_rows}
 use Rattle.rows.specs.Joins.{joins}
 use Rattle.rows.proofs.Given.{rows-accepted}
 use Rattle.rows.proofs.closure.Joining.{joins-same}
-use Rattle.walks.specs.Walks.{Heights, Cycle}
+use Rattle.walks.specs.Walks.{NoHeights, HeightsWritten, Heights, CycleWritten, Cycle}
+use Rattle.std.specs.Option.{IsSome}
+use Rattle.std.specs.Prelude.{Option, Some, None}
 use Rattle.rows.specs.Gather.{Tidy}
 use Rattle.waits.specs.Waiting.{WaitsRows, RowPairs}
 use Rattle.waits.proofs.Waiting.{waits-same}
@@ -101,18 +103,26 @@ wrote-first k old new long fits rest =
 
 -- ---- the plan of the rows, from the walks
 
+-- where there are no heights there is a closed walk
+pub is_cycle : (n : ℕ) (rows old mid new : List ℕ) (r q : Option ℕ) → r ≡ None → Heights rows n old mid r → Cycle rows rows n mid new q → IsSome q
+is_cycle n rows old mid new r None e h c =
+    let a = (subst (Heights rows n old mid) e h).told.cyclic in
+    let w = plus-closed (Rows n rows) a.0 a.1 in
+    absurd (c.told.none w.0 w.1)
+is_cycle n rows old mid new r (Some len) e h c = refl
+
 module _ (n : ℕ) (rows old : List ℕ) (room : n ≤ length old) (sum : ℕ) (counted : RowPairs n rows sum) (j : ℕ) where
-  pub ranked : (new : List ℕ) (k : ℕ) → ¬ (k ≡ 0) → Heights rows n old new k
+  pub ranked : (new : List ℕ) (r : Option ℕ) (k : ℕ) → r ≡ Some k → Heights rows n old new r
       → WaitsPlan n rows j old new (record { number = 0; length = n; networks = k; needed = 0; pairs = sum; joins = j })
-  ranked new k g h = record {
+  ranked new r k e h = record {
     written = take n new;
-    wrote = wrote-first n old new h.long room (h.rest g);
+    wrote = wrote-first n old new h.long room t.rest;
     class = inl (
         record {
           long = length-take-le n new (omega (arith, h.long));
-          heights = λ m l. subst (Height (Rows n rows) m) (sym (get_or-take n new m 0 l)) (h.height g m l);
-          below = λ m l. subst (λ (x : ℕ). x < k) (sym (get_or-take n new m 0 l)) (h.below g m l);
-          greatest = let t = h.greatest g in (t.0, t.1, ap suc (get_or-take n new t.0 0 t.1) ∙ t.2);
+          heights = λ m l. subst (Height (Rows n rows) m) (sym (get_or-take n new m 0 l)) (t.height m l);
+          below = λ m l. subst (λ (x : ℕ). x < k) (sym (get_or-take n new m 0 l)) (t.below m l);
+          greatest = let g = t.greatest in (g.0, g.1, ap suc (get_or-take n new g.0 0 g.1) ∙ g.2);
         }
         );
     row_pairs = counted;
@@ -120,21 +130,24 @@ module _ (n : ℕ) (rows old : List ℕ) (room : n ≤ length old) (sum : ℕ) (
     number_0 = refl;
     needed_0 = refl;
   }
+    where
+      t : HeightsWritten rows n old new k
+      t = (subst (Heights rows n old new) e h).told
 
-  pub cycled : (mid new : List ℕ) (k len : ℕ) → k ≡ 0 → Heights rows n old mid k → Cycle rows rows n mid new len
+  pub cycled : (mid new : List ℕ) (r q : Option ℕ) (len : ℕ) → r ≡ None → Heights rows n old mid r → q ≡ Some len → Cycle rows rows n mid new q
       → WaitsPlan n rows j old new (record { number = 0; length = len; networks = 0; needed = 0; pairs = sum; joins = j })
-  cycled mid new k len e h c = record {
+  cycled mid new r q len e h f c = record {
     written = take len new;
-    wrote = wrote-first len old new (c.long ∙ ap length (h.kept e)) (omega (arith, c.fits)) (c.rest ∙ ap (λ (l : List ℕ). drop len l) (h.kept e));
-    class = inr (record { none = refl; shown = c.shown found });
+    wrote = wrote-first len old new (c.long ∙ ap length none.kept) (omega (arith, t.fits)) (t.rest ∙ ap (λ (l : List ℕ). drop len l) none.kept);
+    class = inr (record { none = refl; shown = t.shown });
     row_pairs = counted;
     row_joins = refl;
     number_0 = refl;
     needed_0 = refl;
   }
     where
-      found : ¬ (len ≡ 0)
-      found z =
-          let a = h.cyclic e in
-          let w = plus-closed (Rows n rows) a.0 a.1 in
-          c.none z w.0 w.1
+      none : NoHeights rows n old mid
+      none = (subst (Heights rows n old mid) e h).told
+
+      t : CycleWritten rows rows n mid new len
+      t = (subst (Cycle rows rows n mid new) f c).told

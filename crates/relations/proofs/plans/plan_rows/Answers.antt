@@ -1,16 +1,23 @@
 -- `relations::plans::plan_rows` meets its contract.
-use Rattle.relations.proofs.plans.Plans.{ranked, cycled}
+use Rattle.relations.proofs.plans.Plans.{ranked, is_cycle, cycled}
 use Rattle.relations.proofs.plans.plan_rows.Goals as goal
 
-pub returns-then-networks-ne0 : goal.returns-then-networks-ne0
-returns-then-networks-ne0 c =
-    let h = c.heights-networks in
+pub returns-in-Some : goal.returns-in-Some
+returns-in-Some c =
+    let h = c.heights-found in
     let p = c.pairs-sum in
-    ranked c.args.n c.args.waits.now c.args.out.now c.requires.4 p.result p.ensures c.args.joins h.new.out h.result c.if-networks-ne0.true h.ensures.heights
+    ranked c.args.n c.args.waits.now c.args.out.now c.requires.4 p.result p.ensures c.args.joins h.new.out h.result c.in-Some.networks c.in-Some.is h.ensures.heights
+
+pub unwrap-len-requires : goal.unwrap-len-requires
+unwrap-len-requires c =
+    let h = c.heights-found in
+    let y = c.cycle in
+    is_cycle c.args.n c.args.waits.now c.args.out.now h.new.out y.new.out h.result y.result c.in_default.is h.ensures.heights y.ensures.cycle
 
 pub returns : goal.returns
 returns c =
-    let h = c.heights-networks in
+    let h = c.heights-found in
     let p = c.pairs-sum in
-    let y = c.cycle-len in
-    cycled c.args.n c.args.waits.now c.args.out.now c.requires.4 p.result p.ensures c.args.joins h.new.out y.new.out h.result y.result c.if-networks-ne0.false h.ensures.heights y.ensures.cycle
+    let y = c.cycle in
+    let u = c.unwrap-len in
+    cycled c.args.n c.args.waits.now c.args.out.now c.requires.4 p.result p.ensures c.args.joins h.new.out y.new.out h.result y.result u.result c.in_default.is h.ensures.heights u.ensures y.ensures.cycle
