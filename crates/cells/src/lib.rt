@@ -56,7 +56,7 @@ fn judged(at: CellReading, nth: usize, cells: [Cell; tables::CELLS], count: usiz
         return refused(papers::STALL_STABLE, 0, nth);
     }
     let cell = at.cell;
-    if tables::conflicts::any_clash(cells, count, cell) {
+    if tables::conflicts::any_clash(&cells[..count], &cell) {
         return refused(papers::CONFLICT, 0, nth);
     }
     CellLine {

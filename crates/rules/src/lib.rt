@@ -5,19 +5,19 @@
 ghost use Rattle.std.specs.Prelude.{◌≡◌};
 
 // A message's number, in the order of the file.
-#[derive(Clone, Copy)]
+#[derive(Clone, Copy, PartialEq, Eq)]
 pub struct Message(pub u8);
 
 // The number of a virtual network.
-#[derive(Clone, Copy)]
+#[derive(Clone, Copy, PartialEq, Eq)]
 pub struct Network(pub u8);
 
 // A state's number, in the order of the file, over both controllers.
-#[derive(Clone, Copy)]
+#[derive(Clone, Copy, PartialEq, Eq)]
 pub struct State(pub u8);
 
 // The number of a core access, in the order of the file.
-#[derive(Clone, Copy)]
+#[derive(Clone, Copy, PartialEq, Eq)]
 pub struct Event(pub u8);
 
 impl Message {
@@ -25,8 +25,7 @@ impl Message {
     pub fn index(self) -> usize
         ensures { result ≡ self.0 }
     {
-        let message = self.0;
-        message as usize
+        self.0 as usize
     }
 }
 
@@ -35,7 +34,6 @@ impl State {
     pub fn index(self) -> usize
         ensures { result ≡ self.0 }
     {
-        let state = self.0;
-        state as usize
+        self.0 as usize
     }
 }

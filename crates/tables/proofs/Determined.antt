@@ -39,8 +39,8 @@ states-determined t = equal _
 pub cells-determined : (t : Tables) → Determines (λ (r : List Cell). r ≡ stored_of t)
 cells-determined t = equal _
 
-pub any-clash-determined : (cells : List Cell) (n : ℕ) (c : Cell) → Determines (λ (r : Bool). r ≡ any_clash_lem c (take n cells))
-any-clash-determined cells n c = equal _
+pub any-clash-determined : (cells : List Cell) (c : Cell) → Determines (λ (r : Bool). r ≡ any_clash_lem c cells)
+any-clash-determined cells c = equal _
 
 pub message-named-determined : (rows : List MessageRow) (x : List ℕ) → Determines (λ (r : Option Message). r ≡ found_message (first_index (message_named_lem x) rows) (length rows))
 message-named-determined rows x = equal _

@@ -22,7 +22,7 @@ pub const CELLS: usize = 512;
 pub const SENT: usize = 8;
 
 // What a message is for. It is stored and has no effect on the relations.
-#[derive(Clone, Copy)]
+#[derive(Clone, Copy, PartialEq, Eq)]
 pub enum Kind {
     Req,
     Fwd,
@@ -38,21 +38,21 @@ pub enum Controller {
 }
 
 // A stall may stand in a transient state only.
-#[derive(Clone, Copy)]
+#[derive(Clone, Copy, PartialEq, Eq)]
 pub enum Stability {
     Stable,
     Transient,
 }
 
 // What a cell answers to: a message, or on the cache also a core access.
-#[derive(Clone, Copy)]
+#[derive(Clone, Copy, PartialEq, Eq)]
 pub enum Trigger {
     Message(Message),
     Event(Event),
 }
 
 // What a cell does: nothing for now, or go to its next state.
-#[derive(Clone, Copy)]
+#[derive(Clone, Copy, PartialEq, Eq)]
 pub enum Outcome {
     Stall,
     Go(State),
