@@ -1,15 +1,14 @@
 -- Laws of names.
-use mathlib.Core.Path.{◌≡◌, refl, sym, ap, ap₂, ◌∙◌, subst}
-use mathlib.Core.Bool.{Bool, true, false, ◌&&◌, or-true}
-use mathlib.Core.Logic.{◌⊎◌, inl, inr}
+use mathlib.Core.Path.{◌≡◌, refl, sym, ap, ap₂, ◌∙◌}
+use mathlib.Core.Bool.{Bool, true, false, ◌&&◌}
 use mathlib.Core.List.{List, [], ◌∷◌, ◌++◌}
-use Prim.Native.Nat.{ℕ, zero, suc, ◌+◌, ◌-◌, ◌≤◌, ◌<◌}
+use Prim.Native.Nat.{ℕ, zero, suc, ◌-◌, ◌≤◌}
 use native.Mathlib.Omega.{arith}
-use native.Mathlib.Numerals.{add-one}
-use lib.ListN.{length, take, drop, get_or, replicate, length-take, drop_of_length-le}
-use lib.Seq.{drop-cons, take_at}
+use lib.ListN.{length, drop, replicate}
+use lib.Seq.{take_at}
 use lib.Dec.{leb}
 use borrow.Author.Tests.{leb-true, le-leb, ne_eqb}
+use Rattle.std.specs.List.{list_all}
 use Rattle.text.specs.declared.Name.{Name}
 use Rattle.text.specs.Written.{Wrote}
 use Rattle.text.specs.Name.{among, is_name_byte, every, name_rule, name_text, name_of_lem}
@@ -33,33 +32,11 @@ pub no-name-byte : (x : ℕ) → (97 ≤ x → x ≤ 122 → ⊥) → (65 ≤ x 
 unfolding is_name_byte
 no-name-byte x a b c d e f g = rw (among-out 97 122 x a, among-out 65 90 x b, among-out 48 57 x c, ne_eqb x 45 d, ne_eqb x 43 e, ne_eqb x 95 f, ne_eqb x 46 g)
 
--- a byte of one of the kinds
-pub yes-name-byte : (x : ℕ)
-    → ((97 ≤ x) × (x ≤ 122)) ⊎ (((65 ≤ x) × (x ≤ 90)) ⊎ (((48 ≤ x) × (x ≤ 57)) ⊎ ((x ≡ 45) ⊎ ((x ≡ 43) ⊎ ((x ≡ 95) ⊎ (x ≡ 46))))))
-    → is_name_byte x ≡ true
-unfolding is_name_byte
-yes-name-byte x (inl h) = rw (among_in 97 122 x h.0 h.1)
-yes-name-byte x (inr (inl h)) = rw (among_in 65 90 x h.0 h.1) (or-true (among 97 122 x))
-yes-name-byte x (inr (inr (inl h))) = rw (among_in 48 57 x h.0 h.1) (rw or-true (or-true (among 97 122 x)))
-yes-name-byte x (inr (inr (inr (inl h)))) = subst (λ (y : ℕ). is_name_byte y ≡ true) (sym h) refl
-yes-name-byte x (inr (inr (inr (inr (inl h))))) = subst (λ (y : ℕ). is_name_byte y ≡ true) (sym h) refl
-yes-name-byte x (inr (inr (inr (inr (inr (inl h)))))) = subst (λ (y : ℕ). is_name_byte y ≡ true) (sym h) refl
-yes-name-byte x (inr (inr (inr (inr (inr (inr h)))))) = subst (λ (y : ℕ). is_name_byte y ≡ true) (sym h) refl
-
-module _ (p : ℕ → Bool) (l : List ℕ) (i : ℕ) (h : i < length l) where
-  heads : every p (drop i l) ≡ (p (get_or l i 0) && every p (drop (i + 1) l))
-  unfolding every
-  heads = rw add-one (ap (every p) (drop-cons l i 0 h))
-
-  pub every-next : p (get_or l i 0) ≡ true → every p (drop (i + 1) l) ≡ every p (drop i l)
-  every-next e = sym (heads ∙ ap (λ (t : Bool). t && every p (drop (i + 1) l)) e)
-
-  pub every-fails : p (get_or l i 0) ≡ false → every p (drop i l) ≡ false
-  every-fails e = heads ∙ ap (λ (t : Bool). t && every p (drop (i + 1) l)) e
-
-pub every-end : (p : ℕ → Bool) (l : List ℕ) (i : ℕ) → length l ≤ i → every p (drop i l) ≡ true
+-- what `all` over the bytes answers
+pub every-all : (p : ℕ → Bool) (l : List ℕ) → list_all p l ≡ every p l
 unfolding every
-every-end p l i h = ap (every p) (drop_of_length-le l {i = i} h)
+every-all p [] = refl
+every-all p (x ∷ l) = ap (λ (t : Bool). p x && t) (every-all p l)
 
 pub rule-short : (l : List ℕ) → (1 ≤ length l → length l ≤ 24 → ⊥) → name_rule l ≡ false
 unfolding name_rule
@@ -98,16 +75,3 @@ name-put l new n w = same (w.bytes ∙ ap (λ (r : List ℕ). l ++ r) (drop-repl
 pub name-text : (l : List ℕ) → name_text (name_of_lem l) ≡ l
 unfolding name_of_lem
 name-text l = take_at l (replicate (24 - length l) 0) (length l) refl
-
--- as many bytes as a front has are that front
-kept-text : (n : ℕ) (l : List ℕ) → take (length (take n l)) l ≡ take n l
-kept-text zero l = refl
-kept-text (suc n) [] = refl
-kept-text (suc n) (x ∷ l) = ap (λ (r : List ℕ). x ∷ r) (kept-text n l)
-
--- as many of the kept bytes as the name has are the name's
-pub kept-bytes : (n : Name) (r : ℕ) → r ≡ length (name_text n) → take r n.bytes ≡ name_text n
-kept-bytes n r e = ap (λ (k : ℕ). take k n.bytes) e ∙ kept-text n.length n.bytes
-
-pub kept-length : (n : Name) → length (name_text n) ≤ length n.bytes
-kept-length n = omega (arith, length-take n.length n.bytes)

@@ -6,10 +6,12 @@ use Prim.Native.Nat.{ℕ, zero, suc, ◌+◌, ◌-◌, ◌≤◌, ◌<◌}
 use native.Mathlib.Omega.{arith}
 use native.Mathlib.Numerals.{add-one}
 use native.Mathlib.Nat.{add-zero}
-use lib.ListN.{length, take, drop, get_or, length-take, length-drop, drop_of_length-le}
+use lib.ListN.{length, take, drop, get_or, length-take, length-drop}
 use lib.Seq.{drop-cons, get_or-take, get_or-drop}
 use lib.Dec.{eqb}
 use borrow.Author.Tests.{eqb-true, eqb-false, eq-eqb, ne_eqb}
+use Rattle.std.specs.Cmp.Lexicographic.{pointwise}
+use Rattle.std.specs.List.{filter}
 use Rattle.text.specs.Parts.{part, is_same_text, first_index, is, place, how_many}
 
 -- ---- the same text
@@ -33,6 +35,14 @@ same_refl (x ∷ l) = ap₂ (λ (s t : Bool). s && t) (eq-eqb x x refl) (same_re
 pub true_same : (l m : List ℕ) → l ≡ m → is_same_text l m ≡ true
 true_same l m e = subst (λ (k : List ℕ). is_same_text l k ≡ true) e (same_refl l)
 
+-- what `==` on two texts answers
+pub same-pointwise : (l m : List ℕ) → pointwise eqb l m ≡ is_same_text l m
+unfolding is_same_text
+same-pointwise [] [] = refl
+same-pointwise [] (y ∷ m) = refl
+same-pointwise (x ∷ l) [] = refl
+same-pointwise (x ∷ l) (y ∷ m) = ap (λ (t : Bool). eqb x y && t) (same-pointwise l m)
+
 -- texts that are not the same
 pub same_false : (l m : List ℕ) → (l ≡ m → ⊥) → is_same_text l m ≡ false
 same_false l m h = go (is_same_text l m) refl
@@ -41,33 +51,11 @@ same_false l m h = go (is_same_text l m) refl
     go true e = absurd (h (same_true l m e))
     go false e = e
 
--- texts of other lengths
-pub same-lengths : (l m : List ℕ) → (length l ≡ length m → ⊥) → is_same_text l m ≡ false
-same-lengths l m h = same_false l m (λ e. h (ap length e))
-
 -- what a list is read as past its end does not matter within it
 pub get_or-within : {A : Type 0} (l : List A) (i : ℕ) (x y : A) → i < length l → get_or l i x ≡ get_or l i y
 get_or-within [] i x y h = absurd (omega arith)
 get_or-within (e ∷ l) zero x y h = refl
 get_or-within (e ∷ l) (suc i) x y h = get_or-within l i x y (omega arith)
-
-module _ (l m : List ℕ) (i : ℕ) (h : i < length l) (k : i < length m) where
-  heads : is_same_text (drop i l) (drop i m) ≡ (eqb (get_or l i 0) (get_or m i 0) && is_same_text (drop (i + 1) l) (drop (i + 1) m))
-  unfolding is_same_text
-  heads =
-      rw add-one (ap₂ is_same_text (drop-cons l i 0 h) (drop-cons m i 0 k))
-
-  -- one byte further
-  pub same_next : get_or l i 0 ≡ get_or m i 0 → is_same_text (drop (i + 1) l) (drop (i + 1) m) ≡ is_same_text (drop i l) (drop i m)
-  same_next e = sym (heads ∙ ap (λ (t : Bool). t && is_same_text (drop (i + 1) l) (drop (i + 1) m)) (eq-eqb (get_or l i 0) (get_or m i 0) e))
-
-  -- another byte
-  pub same-differ : (get_or l i 0 ≡ get_or m i 0 → ⊥) → is_same_text (drop i l) (drop i m) ≡ false
-  same-differ e = heads ∙ ap (λ (t : Bool). t && is_same_text (drop (i + 1) l) (drop (i + 1) m)) (ne_eqb (get_or l i 0) (get_or m i 0) e)
-
--- nothing left
-pub same_end : (l m : List ℕ) (i : ℕ) → length l ≤ i → length m ≤ i → is_same_text (drop i l) (drop i m) ≡ true
-same_end l m i h k = true_same (drop i l) (drop i m) (drop_of_length-le l {i = i} h ∙ sym (drop_of_length-le m {i = i} k))
 
 -- ---- the first that passes
 
@@ -188,21 +176,16 @@ module _ (b : ℕ) (text : List ℕ) where
 -- ---- how many there are
 
 module _ (b : ℕ) where
-  pub many-next : (text : List ℕ) (i : ℕ) → i < length text → get_or text i 0 ≡ b → how_many b (drop i text) ≡ suc (how_many b (drop (i + 1) text))
+  -- those that are b, taken out of the text
+  pub many-filtered : (l : List ℕ) → length (filter (is b) l) ≡ how_many b l
   unfolding how_many
-  many-next text i h e =
-      rw add-one (ap (how_many b) (drop-cons text i 0 h)
-      ∙ ap (λ (t : Bool). cond t (suc (how_many b (drop (suc i) text))) (how_many b (drop (suc i) text))) (eq-eqb (get_or text i 0) b e))
-
-  pub many-other : (text : List ℕ) (i : ℕ) → i < length text → (get_or text i 0 ≡ b → ⊥) → how_many b (drop i text) ≡ how_many b (drop (i + 1) text)
-  unfolding how_many
-  many-other text i h e =
-      rw add-one (ap (how_many b) (drop-cons text i 0 h)
-      ∙ ap (λ (t : Bool). cond t (suc (how_many b (drop (suc i) text))) (how_many b (drop (suc i) text))) (ne_eqb (get_or text i 0) b e))
-
-  pub many-end : (text : List ℕ) (i : ℕ) → length text ≤ i → how_many b (drop i text) ≡ 0
-  unfolding how_many
-  many-end text i h = ap (how_many b) (drop_of_length-le text {i = i} h)
+  many-filtered [] = refl
+  many-filtered (x ∷ l) = go (eqb x b) refl (many-filtered l)
+    where
+      go : (t : Bool) → eqb x b ≡ t → length (filter (is b) l) ≡ how_many b l
+          → length (cond (eqb x b) (x ∷ filter (is b) l) (filter (is b) l)) ≡ cond (eqb x b) (suc (how_many b l)) (how_many b l)
+      go true e h = rw e (ap suc h)
+      go false e h = rw e h
 
   pub many-le : (l : List ℕ) → how_many b l ≤ length l
   unfolding how_many

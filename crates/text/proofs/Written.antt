@@ -4,11 +4,10 @@ use mathlib.Core.Bool.{Bool, true, false, cond}
 use mathlib.Core.List.{List, [], ◌∷◌, ◌++◌, append_assoc, append-nil}
 use Prim.Native.Nat.{ℕ, zero, suc, ◌+◌, ◌-◌, ◌/◌, ◌%◌, ◌^◌, ◌≤◌, ◌<◌}
 use native.Mathlib.Omega.{arith}
-use native.Mathlib.Numerals.{add-one}
 use native.Mathlib.Nat.{pow-suc, zero-add}
 use native.Mathlib.Decide.{le_ind}
 use lib.ListN.{length, take, drop, set, get_or, length-append, length-take, length-drop, drop_of_length-le}
-use lib.Seq.{take-suc, drop-cons, set_at, length-take-le, drop-drop, take_at, drop_at, take_all}
+use lib.Seq.{drop-cons, set_at, length-take-le, drop-drop, take_at, drop_at, take_all}
 use lib.Dec.{ltb}
 use borrow.Author.Tests.{lt-ltb, le-ltb, ltb-true, ltb-false}
 use Rattle.text.specs.Written.{wrote, Wrote, Pasted, digits_in, decimal}
@@ -33,13 +32,6 @@ wrote-snoc p old x n e h =
     ap (λ (l : List ℕ). set (p ++ l) n x) (drop-cons old (length p) 0 hp)
     ∙ set_at p (get_or old (length p) 0) (drop (suc (length p)) old) x n (sym e)
     ∙ sym (ap (λ (k : ℕ). (p ++ (x ∷ [])) ++ drop k old) en ∙ append_assoc p (x ∷ []) (drop (suc (length p)) old))
-
--- a turn of a copy
-pub wrote-more : (t old : List ℕ) (i : ℕ) → i < length t → i < length old → set (wrote (take i t) old) i (get_or t i 0) ≡ wrote (take (i + 1) t) old
-wrote-more t old i h k =
-    let e : i ≡ length (take i t) = sym (length-take-le i t (omega arith)) in
-    wrote-snoc (take i t) old (get_or t i 0) i e k
-    ∙ ap (λ (l : List ℕ). wrote l old) (sym (ap (λ (n : ℕ). take n t) (add-one i) ∙ take-suc t i 0 h))
 
 -- ---- decimal
 

@@ -16,7 +16,7 @@ pub const NAME_BYTES: usize = 24;
 // The most fields of a line that are looked at: one more than the longest record has, so that a line that is too long is told.
 pub const FIELDS: usize = 15;
 
-// A declared name: its bytes, zeros behind them, and how many bytes it has.
+// A declared name: its bytes, zeros behind them, and how many bytes it has. Memory is fixed, so a name is no String.
 #[derive(Clone, Copy)]
 pub struct Name {
     pub bytes: [u8; NAME_BYTES],
@@ -35,17 +35,7 @@ pub struct Fields {
 pub fn same(a: &[u8], b: &[u8]) -> bool
     ensures { result ≡ is_same_text a.now b.now }
 {
-    if a.len() != b.len() {
-        return false;
-    }
-    let mut i = 0;
-    while i < a.len() {
-        if a[i] != b[i] {
-            return false;
-        }
-        i += 1;
-    }
-    true
+    a == b
 }
 
 // The first place of b at or after from and before to, and to where there is none.
@@ -53,12 +43,10 @@ pub fn find(text: &[u8], b: u8, from: usize, to: usize) -> usize
     requires { (from ≤ to) × (to ≤ length text.now) }
     ensures { result ≡ place b text.now from to }
 {
-    let mut at = from;
-    while at < to {
+    for at in from..to {
         if text[at] == b {
             return at;
         }
-        at += 1;
     }
     to
 }
@@ -67,15 +55,7 @@ pub fn find(text: &[u8], b: u8, from: usize, to: usize) -> usize
 pub fn count(text: &[u8], b: u8) -> usize
     ensures { result ≡ how_many b text.now }
 {
-    let mut n = 0;
-    let mut k = 0;
-    while k < text.len() {
-        if text[k] == b {
-            n += 1;
-        }
-        k += 1;
-    }
-    n
+    text.iter().filter(|byte| **byte == b).count()
 }
 
 // The text at the front of out.
@@ -83,10 +63,6 @@ pub fn put(out: &mut [u8], text: &[u8]) -> usize
     requires { length text.now ≤ length out.old }
     ensures { Wrote text.now out.old out.new result }
 {
-    let mut i = 0;
-    while i < text.len() {
-        out[i] = text[i];
-        i += 1;
-    }
-    i
+    out[..text.len()].copy_from_slice(text);
+    text.len()
 }

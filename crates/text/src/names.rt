@@ -21,7 +21,7 @@ pub fn name_of(part: &[u8]) -> crate::Name
     let mut bytes = [0u8; crate::NAME_BYTES];
     let n = crate::put(&mut bytes, part);
     crate::Name {
-        bytes: bytes,
+        bytes,
         length: n as u8,
     }
 }
@@ -30,23 +30,21 @@ pub fn name_of(part: &[u8]) -> crate::Name
 pub fn name_length(name: crate::Name) -> usize
     ensures { result ≡ length (name_text name) }
 {
-    let n = name.length as usize;
-    if crate::NAME_BYTES < n {
-        return crate::NAME_BYTES;
-    }
-    n
+    (name.length as usize).min(crate::NAME_BYTES)
+}
+
+// The bytes that the name has.
+pub(crate) fn name_bytes(name: &crate::Name) -> &[u8]
+    ensures { result.now ≡ name_text name.now }
+{
+    &name.bytes[..name_length(*name)]
 }
 
 // Whether the name has these bytes.
 pub fn named(name: crate::Name, part: &[u8]) -> bool
     ensures { result ≡ is_same_text (name_text name) part.now }
 {
-    let count = name_length(name);
-    if count != part.len() {
-        return false;
-    }
-    let bytes = name.bytes;
-    crate::same(&bytes[..count], part)
+    crate::same(name_bytes(&name), part)
 }
 
 // ---- the name rule
@@ -55,29 +53,12 @@ pub fn named(name: crate::Name, part: &[u8]) -> bool
 fn name_byte(b: u8) -> bool
     ensures { result ≡ is_name_byte b }
 {
-    match b {
-        b'a'..=b'z' | b'A'..=b'Z' | b'0'..=b'9' | b'-' | b'+' | b'_' | b'.' => true,
-        _ => false,
-    }
+    b.is_ascii_alphanumeric() || b"-+_.".contains(&b)
 }
 
 // Whether the bytes keep the name rule.
 pub fn is_name(part: &[u8]) -> bool
     ensures { result ≡ name_rule part.now }
 {
-    if part.len() < 1 {
-        return false;
-    }
-    if crate::NAME_BYTES < part.len() {
-        return false;
-    }
-    let mut i = 0;
-    while i < part.len() {
-        let b = part[i];
-        if !name_byte(b) {
-            return false;
-        }
-        i += 1;
-    }
-    true
+    (1..=crate::NAME_BYTES).contains(&part.len()) && part.iter().all(|b| name_byte(*b))
 }

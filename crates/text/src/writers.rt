@@ -9,11 +9,11 @@ fn put_number(out: &mut [u8], n: u32) -> usize
     ensures { Wrote (decimal n) out.old out.new result }
 {
     if n < 10 {
-        out[0] = n as u8 + 48;
+        out[0] = n as u8 + b'0';
         return 1;
     }
     let at = put_number(out, n / 10);
-    out[at] = (n % 10) as u8 + 48;
+    out[at] = (n % 10) as u8 + b'0';
     at + 1
 }
 
@@ -38,7 +38,5 @@ pub fn more_name(out: &mut [u8], at: usize, name: crate::Name) -> usize
     requires { at + length (name_text name) ≤ length out.old }
     ensures { Pasted (name_text name) at out.old out.new result }
 {
-    let n = crate::names::name_length(name);
-    let bytes = name.bytes;
-    more(out, at, &bytes[..n])
+    more(out, at, crate::names::name_bytes(&name))
 }
