@@ -30,299 +30,340 @@
 // everything else. The line of an accepted call ends in a blank, the word `joins`, a blank and the number of row joins.
 #![tactic(auto)]
 
-ghost use Rattle.std.specs.Prelude.{◌*◌, ◌<◌, ◌≤◌, ◌≡◌, length};
+ghost use Rattle.std.specs.Prelude.{◌*◌, ◌<◌, ◌≤◌};
 
 use relations::answer::RelationsAnswer;
 use std::io;
 
-// The state after a draw, which is also what it gives.
-fn draw(state: usize) -> usize
-    ensures { result < 2147483647 }
-{
-    (state % 2147483647) * 48271 % 2147483647
+// ---- the generator
+
+// The generator, with the state that it has come to.
+#[derive(Drop)]
+struct Draws {
+    state: usize,
+    ghost below_modulus: { state < 2147483647 },
 }
 
-// A draw's remainder.
-fn below(drawn: usize, bound: usize) -> usize
-    requires { 0 < bound }
-    ensures { result < bound }
-{
-    drawn % bound
+impl Draws {
+    fn new() -> Draws {
+        Draws { state: 1 }
+    }
+
+    // The next draw, which is also the state after it.
+    fn draw(&mut self) -> usize {
+        self.state = self.state * 48271 % 2147483647;
+        self.state
+    }
+
+    // The remainder of the next draw.
+    fn below(&mut self, bound: usize) -> usize
+        requires { 0 < bound }
+        ensures { result < bound }
+    {
+        self.draw() % bound
+    }
 }
 
-// The most pairs of n messages: n * quarters / 4.
+// ---- what differs between the forms
+
+// A form of the call. The first has rows of 4 bytes and at most 32 messages, the second rows of 8 bytes and at most 64.
+#[derive(Clone, Copy)]
+enum Form {
+    First,
+    Second,
+}
+
+impl Form {
+    // The most messages.
+    fn most(self) -> usize
+        ensures { result ≤ 64 }
+    {
+        match self {
+            Form::First => 32,
+            Form::Second => 64,
+        }
+    }
+
+    // How many rounds there are. A round has a turn for each number of messages: 75 * 32 is 2400, and 20 * 64 is 1280.
+    fn rounds(self) -> usize
+        ensures { result ≤ 75 }
+    {
+        match self {
+            Form::First => 75,
+            Form::Second => 20,
+        }
+    }
+
+    // The round from which on there are faults.
+    fn first_faulty_round(self) -> usize {
+        match self {
+            Form::First => 64,
+            Form::Second => 16,
+        }
+    }
+
+    // How many bytes so many rows have.
+    fn rows_length(self, rows: usize) -> usize
+        requires { rows ≤ 64 }
+        ensures { (rows ≤ result) × (result ≤ 8 * rows) }
+    {
+        match self {
+            Form::First => 4 * rows,
+            Form::Second => 8 * rows,
+        }
+    }
+
+    // Which quarters the stalls have.
+    fn stalls_density(self, round: usize) -> usize
+        requires { round < 75 }
+        ensures { result < 8 }
+    {
+        match self {
+            Form::First => round / 8 % 8,
+            Form::Second => (round + 3 * (round / 8)) % 8,
+        }
+    }
+
+    // The call in this form.
+    fn call(self, n: usize, causes: &[u8], stalls: &[u8], out: &mut [u8]) -> RelationsAnswer {
+        match self {
+            Form::First => relations::relations(n, causes, stalls, out),
+            Form::Second => relations::relations64(n, causes, stalls, out),
+        }
+    }
+}
+
+// ---- the tables
+
+// How a pair of numbers that were drawn is laid in a table.
+#[derive(Clone, Copy)]
+enum Way {
+    AsDrawn,
+    Rising,
+    Falling,
+}
+
+impl Way {
+    // The pair of two numbers, laid in this way.
+    fn lay(self, first: usize, second: usize) -> (usize, usize)
+        requires { (first < 64) × (second < 64) }
+        ensures { (result.0 < 64) × (result.1 < 64) }
+    {
+        match self {
+            Way::AsDrawn => (first, second),
+            Way::Rising => (first.min(second), first.max(second)),
+            Way::Falling => (first.max(second), first.min(second)),
+        }
+    }
+}
+
+// The numbers of pairs in quarters of the number of messages.
+const QUARTERS: [usize; 8] = [1, 2, 3, 4, 6, 10, 24, 100];
+
+// The most pairs of n messages.
 fn most_pairs(n: usize, density: usize) -> usize
-    requires { n ≤ 64 }
+    requires { (n ≤ 64) × (density < 8) }
     ensures { result ≤ 1600 }
 {
-    match density {
-        0 => n / 4,
-        1 => n * 2 / 4,
-        2 => n * 3 / 4,
-        3 => n,
-        4 => n * 6 / 4,
-        5 => n * 10 / 4,
-        6 => n * 6,
-        _ => n * 25,
-    }
-}
-
-// One bit of a byte.
-fn bit(place: usize) -> u8 {
-    match place {
-        0 => 1,
-        1 => 2,
-        2 => 4,
-        3 => 8,
-        4 => 16,
-        5 => 32,
-        6 => 64,
-        _ => 128,
-    }
+    n * QUARTERS[density] / 4
 }
 
 // How long a table is: room for the rows of 64 messages, and one row more.
 const TABLE: usize = 520;
 
-// A form of the call: how many bytes a row has, and how many messages there may be.
+// A table of pairs of messages: a row for each message, with a bit for each.
 #[derive(Clone, Copy)]
-struct Form {
-    size: usize,
-    most: usize,
+struct Table {
+    form: Form,
+    bytes: [u8; TABLE],
 }
 
-fn first_form() -> Form
-    ensures { result.most ≡ 32 }
-{
-    Form { size: 4, most: 32 }
-}
-
-fn second_form() -> Form
-    ensures { result.most ≡ 64 }
-{
-    Form { size: 8, most: 64 }
-}
-
-// How many bytes so many rows have.
-fn rows_length(size: usize, rows: usize) -> usize
-    requires { rows ≤ 64 }
-    ensures { (rows ≤ result) × (result ≤ 8 * rows) }
-{
-    if size == 4 {
-        return 4 * rows;
+impl Table {
+    fn empty(form: Form) -> Table {
+        Table {
+            form,
+            bytes: [0; TABLE],
+        }
     }
-    8 * rows
-}
 
-// Sets a pair in a table.
-fn set_pair(table: &mut [u8; TABLE], size: usize, from: usize, to: usize)
-    requires { (from < 64) × (to ≤ 64) }
-{
-    let place = rows_length(size, from) + to / 8;
-    table[place] = table[place] | bit(to % 8);
-}
-
-// The ways to lay a pair of numbers in a table.
-const AS_DRAWN: usize = 0;
-
-const RISING: usize = 1;
-
-const FALLING: usize = 2;
-
-// Sets the pair of two numbers in one of the ways.
-fn lay_pair(table: &mut [u8; TABLE], size: usize, way: usize, first: usize, second: usize)
-    requires { (first < 64) × (second < 64) }
-{
-    let rises = first <= second;
-    if way == RISING && !rises {
-        set_pair(table, size, second, first);
-        return;
+    fn set(&mut self, from: usize, to: usize)
+        requires { (from < 64) × (to ≤ 64) }
+    {
+        let place = self.form.rows_length(from) + to / 8;
+        self.bytes[place] |= 1 << (to % 8);
     }
-    if way == FALLING && rises {
-        set_pair(table, size, second, first);
-        return;
+
+    // Draws a number of pairs below a bound, and then the pairs.
+    fn fill(&mut self, draws: &mut Draws, n: usize, bound: usize, way: Way)
+        requires { (0 < n) × (n ≤ 64) × (0 < bound) }
+    {
+        for _ in 0..draws.below(bound) {
+            let first = draws.below(n);
+            let second = draws.below(n);
+            let (from, to) = way.lay(first, second);
+            self.set(from, to);
+        }
     }
-    set_pair(table, size, first, second);
 }
 
-// Draws one pair and sets it; gives the state after it.
-fn add_pair(table: &mut [u8; TABLE], size: usize, n: usize, way: usize, state: usize) -> usize
-    requires { (0 < n) × (n ≤ 64) }
-{
-    let first = draw(state);
-    let second = draw(first);
-    lay_pair(table, size, way, below(first, n), below(second, n));
-    second
+// ---- the relations of a turn
+
+// What the tables are drawn like.
+enum Shape {
+    // pairs as they are drawn
+    Free,
+    // each message causes itself, and stalls the one before it
+    Ring,
+    // the lower message causes the higher, and the higher stalls the lower
+    Ordered,
 }
 
-// Draws a number of pairs below a bound, and then the pairs; gives the state after them.
-fn fill(
-    table: &mut [u8; TABLE],
-    size: usize,
+impl Shape {
+    fn drawn(draws: &mut Draws) -> Shape {
+        match draws.below(4) {
+            0 => Shape::Free,
+            1 => Shape::Ring,
+            _ => Shape::Ordered,
+        }
+    }
+}
+
+// What n messages cause and stall.
+#[derive(Drop)]
+struct Relations {
+    form: Form,
     n: usize,
-    bound: usize,
-    way: usize,
-    state: usize,
-) -> usize
-    requires { (0 < n) × (n ≤ 64) × (0 < bound) }
-{
-    let mut here = draw(state);
-    let mut left = below(here, bound);
-    while left > 0 {
-        here = add_pair(table, size, n, way, here);
-        left -= 1;
-    }
-    here
+    causes: Table,
+    stalls: Table,
+    ghost some: { 0 < n },
+    ghost few: { n ≤ 64 },
 }
 
-// One message of the ring: it causes itself, and the next one stalls it.
-fn add_link(
-    causes: &mut [u8; TABLE],
-    stalls: &mut [u8; TABLE],
-    size: usize,
-    n: usize,
-    message: usize,
-)
-    requires { (message < n) × (n ≤ 64) }
-{
-    set_pair(causes, size, message, message);
-    if message + 1 == n {
-        set_pair(stalls, size, 0, message);
-        return;
+impl Relations {
+    fn empty(form: Form, n: usize) -> Relations
+        requires { (0 < n) × (n ≤ 64) }
+    {
+        Relations {
+            form,
+            n,
+            causes: Table::empty(form),
+            stalls: Table::empty(form),
+        }
     }
-    set_pair(stalls, size, message + 1, message);
-}
 
-// All messages in a ring.
-fn add_ring(causes: &mut [u8; TABLE], stalls: &mut [u8; TABLE], size: usize, n: usize)
-    requires { n ≤ 64 }
-{
-    let mut message: usize = 0;
-    while message < n {
-        add_link(causes, stalls, size, n, message);
-        message += 1;
+    // All messages in a ring, and up to three more pairs that stall.
+    fn add_ring(&mut self, draws: &mut Draws) {
+        let n = self.n;
+        for message in 0..n {
+            self.causes.set(message, message);
+            self.stalls.set((message + 1) % n, message);
+        }
+        self.stalls.fill(draws, n, 4, Way::AsDrawn);
     }
-}
 
-// Which quarters the stalls have.
-fn stalls_density(size: usize, round: usize) -> usize
-    requires { round ≤ 75 }
-{
-    if size == 4 {
-        return round / 8 % 8;
+    // Pairs in both tables, as many as the round says.
+    fn add_pairs(&mut self, draws: &mut Draws, round: usize, causes: Way, stalls: Way)
+        requires { round < 75 }
+    {
+        let n = self.n;
+        let causes_most = most_pairs(n, round % 8);
+        let stalls_most = most_pairs(n, self.form.stalls_density(round));
+        self.causes.fill(draws, n, causes_most + 1, causes);
+        self.stalls.fill(draws, n, stalls_most + 1, stalls);
     }
-    (round + 3 * (round / 8)) % 8
-}
 
-// Draws both tables; gives the state after them.
-fn relate(
-    causes: &mut [u8; TABLE],
-    stalls: &mut [u8; TABLE],
-    size: usize,
-    n: usize,
-    round: usize,
-    state: usize,
-) -> usize
-    requires { (0 < n) × (n ≤ 64) × (round ≤ 75) }
-{
-    let drawn = draw(state);
-    let shape = drawn % 4;
-    if shape == 1 {
-        add_ring(causes, stalls, size, n);
-        return fill(stalls, size, n, 4, AS_DRAWN, drawn);
+    // Draws the shape, and both tables.
+    fn relate(&mut self, draws: &mut Draws, round: usize)
+        requires { round < 75 }
+    {
+        match Shape::drawn(draws) {
+            Shape::Free => self.add_pairs(draws, round, Way::AsDrawn, Way::AsDrawn),
+            Shape::Ring => self.add_ring(draws),
+            Shape::Ordered => self.add_pairs(draws, round, Way::Rising, Way::Falling),
+        }
     }
-    let causes_bound = most_pairs(n, round % 8) + 1;
-    let stalls_bound = most_pairs(n, stalls_density(size, round)) + 1;
-    if shape == 0 {
-        let caused = fill(causes, size, n, causes_bound, AS_DRAWN, drawn);
-        return fill(stalls, size, n, stalls_bound, AS_DRAWN, caused);
-    }
-    let caused = fill(causes, size, n, causes_bound, RISING, drawn);
-    fill(stalls, size, n, stalls_bound, FALLING, caused)
-}
 
-// How a byte of the output is shown.
-fn shown(byte: u8) -> u8 {
-    if byte < 10 {
-        return 48 + byte;
-    }
-    if byte < 36 {
-        return 87 + byte;
-    }
-    if byte < 62 {
-        return 29 + byte;
-    }
-    if byte == 62 {
-        return b'+';
-    }
-    if byte == 63 {
-        return b'-';
-    }
-    if byte == 255 {
-        return b'.';
-    }
-    b'?'
-}
-
-// Makes each byte what is shown of it.
-fn show(out: &mut [u8]) {
-    let mut i: usize = 0;
-    while i < out.len() {
-        out[i] = shown(out[i]);
-        i += 1;
+    // The last row of causes gets bit n, if n is below most.
+    fn add_stray(&mut self) {
+        let n = self.n;
+        if n < self.form.most() {
+            self.causes.set(n - 1, n);
+        }
     }
 }
 
-// A number, and a blank after it.
-fn print_number(rt: &impl Print, number: usize) -> io::Result<()> {
-    print!(rt; "{number} ")
+// ---- the faults of a turn
+
+// What is wrong with what a call is given.
+#[derive(Clone, Copy)]
+enum Fault {
+    Nothing,
+    NoMessages,
+    TooManyMessages,
+    ShortCauses,
+    LongStalls,
+    StrayBit,
+    ShortOutput,
+    StrayBitAndShortOutput,
 }
 
-// The row joins of an accepted call.
-fn print_joins(rt: &impl Print, number: u8, joins: usize) -> io::Result<()> {
-    if number != 0 {
-        return Ok(());
+impl Fault {
+    fn drawn(draws: &mut Draws) -> Fault {
+        match draws.below(8) {
+            1 => Fault::NoMessages,
+            2 => Fault::TooManyMessages,
+            3 => Fault::ShortCauses,
+            4 => Fault::LongStalls,
+            5 => Fault::StrayBit,
+            6 => Fault::ShortOutput,
+            7 => Fault::StrayBitAndShortOutput,
+            _ => Fault::Nothing,
+        }
     }
-    print!(rt; " joins {joins}")
-}
 
-// The call in one of its forms.
-fn call_form(
-    size: usize,
-    n: usize,
-    causes: &[u8],
-    stalls: &[u8],
-    out: &mut [u8],
-) -> RelationsAnswer {
-    if size == 4 {
-        return relations::relations(n, causes, stalls, out);
+    fn has_stray_bit(self) -> bool {
+        matches!(self, Fault::StrayBit | Fault::StrayBitAndShortOutput)
     }
-    relations::relations64(n, causes, stalls, out)
+
+    // What the call is given of n messages and so much room.
+    fn given(self, form: Form, n: usize, room: usize) -> Given
+        requires { (0 < n) × (n ≤ 64) × (room ≤ 67) }
+        ensures { (result.causes ≤ 520) × (result.stalls ≤ 520) × (result.room ≤ 67) }
+    {
+        let bytes = form.rows_length(n);
+        let right = Given {
+            n,
+            causes: bytes,
+            stalls: bytes,
+            room,
+        };
+        match self {
+            Fault::Nothing | Fault::StrayBit => right,
+            Fault::NoMessages => Given { n: 0, ..right },
+            Fault::TooManyMessages => Given {
+                n: n + form.most(),
+                ..right
+            },
+            Fault::ShortCauses => Given {
+                causes: bytes - 1,
+                ..right
+            },
+            Fault::LongStalls => Given {
+                stalls: bytes + 1,
+                ..right
+            },
+            Fault::ShortOutput | Fault::StrayBitAndShortOutput => Given {
+                room: n - 1,
+                ..right
+            },
+        }
+    }
 }
 
-// Makes one call and prints its line.
-fn report(
-    rt: &impl Print,
-    size: usize,
-    n: usize,
-    causes: &[u8],
-    stalls: &[u8],
-    out: &mut [u8],
-) -> io::Result<()> {
-    let answer = call_form(size, n, causes, stalls, out);
-    print_number(rt, n)?;
-    print_number(rt, answer.number as usize)?;
-    print_number(rt, answer.length)?;
-    print_number(rt, answer.networks)?;
-    print_number(rt, answer.needed)?;
-    print_number(rt, answer.pairs)?;
-    show(out);
-    rt.write_all(out)?;
-    print_joins(rt, answer.number, answer.joins)?;
-    println!(rt;)
-}
+// The most bytes of an output.
+const ROOM: usize = 67;
 
-// The numbers that are given to the call.
+// The numbers that are given to the call: of messages, and of bytes of each table and of the output.
 #[derive(Clone, Copy)]
 struct Given {
     n: usize,
@@ -331,146 +372,97 @@ struct Given {
     room: usize,
 }
 
-fn with_fault(form: Form, n: usize, room: usize, fault: usize) -> Given
-    requires { (form.most ≤ 64) × (0 < n) × (n ≤ 64) × (room ≤ 67) }
-    ensures { (result.causes ≤ 520) × (result.stalls ≤ 520) × (result.room ≤ 67) }
-{
-    let bytes = rows_length(form.size, n);
-    match fault {
-        1 => Given {
-            n: 0,
-            causes: bytes,
-            stalls: bytes,
-            room: room,
-        },
-        2 => Given {
-            n: n + form.most,
-            causes: bytes,
-            stalls: bytes,
-            room: room,
-        },
-        3 => Given {
-            n: n,
-            causes: bytes - 1,
-            stalls: bytes,
-            room: room,
-        },
-        4 => Given {
-            n: n,
-            causes: bytes,
-            stalls: bytes + 1,
-            room: room,
-        },
-        6 | 7 => Given {
-            n: n,
-            causes: bytes,
-            stalls: bytes,
-            room: n - 1,
-        },
-        _ => Given {
-            n: n,
-            causes: bytes,
-            stalls: bytes,
-            room: room,
-        },
+// ---- the output
+
+// How a byte of the output is shown.
+fn shown(byte: u8) -> u8 {
+    match byte {
+        0..=9 => b'0' + byte,
+        10..=35 => b'a' + (byte - 10),
+        36..=61 => b'A' + (byte - 36),
+        62 => b'+',
+        63 => b'-',
+        255 => b'.',
+        _ => b'?',
     }
 }
 
-// The last row of causes gets bit n, when it has one.
-fn add_stray(causes: &mut [u8; TABLE], form: Form, n: usize, fault: usize)
-    requires { (0 < n) × (n ≤ 64) }
-{
-    let size = form.size;
-    if n == form.most {
-        return;
-    }
-    if fault == 5 {
-        set_pair(causes, size, n - 1, n);
-    }
-    if fault == 7 {
-        set_pair(causes, size, n - 1, n);
+// Makes each byte what is shown of it.
+fn show(out: &mut [u8]) {
+    for byte in out.iter_mut() {
+        *byte = shown(*byte);
     }
 }
+
+// Prints the line of a call.
+fn report(rt: &impl Print, n: usize, answer: RelationsAnswer, out: &mut [u8]) -> io::Result<()> {
+    print!(rt;
+        "{n} {} {} {} {} {} ",
+        answer.number, answer.length, answer.networks, answer.needed, answer.pairs
+    )?;
+    show(out);
+    rt.write_all(out)?;
+    if answer.number == 0 {
+        print!(rt; " joins {}", answer.joins)?;
+    }
+    println!(rt;)
+}
+
+// ---- the turns
 
 // Makes the call with the numbers given.
-fn call(
-    rt: &impl Print,
-    size: usize,
-    causes: [u8; TABLE],
-    stalls: [u8; TABLE],
-    given: Given,
-) -> io::Result<()>
+fn call(rt: &impl Print, relations: &Relations, given: Given) -> io::Result<()>
     requires { (given.causes ≤ 520) × (given.stalls ≤ 520) × (given.room ≤ 67) }
 {
-    let mut out = [255u8; 67];
-    let causes_end = given.causes;
-    let stalls_end = given.stalls;
-    let room = given.room;
-    report(
-        rt,
-        size,
+    let mut out = [255u8; ROOM];
+    let lent = &mut out[..given.room];
+    let answer = relations.form.call(
         given.n,
-        &causes[..causes_end],
-        &stalls[..stalls_end],
-        &mut out[..room],
-    )
+        &relations.causes.bytes[..given.causes],
+        &relations.stalls.bytes[..given.stalls],
+        lent,
+    );
+    report(rt, given.n, answer, lent)
 }
 
-// One turn, with faults from a round on; gives the state after it.
-fn turn(
-    rt: &impl Print,
-    form: Form,
-    n: usize,
-    round: usize,
-    faulty: usize,
-    state: usize,
-) -> io::Result<usize>
-    requires { (form.most ≤ 64) × (0 < n) × (n ≤ 64) × (round ≤ 75) }
+// One turn.
+fn turn(rt: &impl Print, draws: &mut Draws, form: Form, n: usize, round: usize) -> io::Result<()>
+    requires { (0 < n) × (n ≤ 64) × (round < 75) }
 {
-    let size = form.size;
-    let mut causes = [0u8; TABLE];
-    let mut stalls = [0u8; TABLE];
-    let related = relate(&mut causes, &mut stalls, size, n, round, state);
-    let more = draw(related);
-    if round < faulty {
-        call(
-            rt,
-            size,
-            causes,
-            stalls,
-            with_fault(form, n, n + more % 4, 0),
-        )?;
-        return Ok(more);
+    let mut relations = Relations::empty(form, n);
+    relations.relate(draws, round);
+    let room = n + draws.below(4);
+    let fault = if round < form.first_faulty_round() {
+        Fault::Nothing
+    } else {
+        Fault::drawn(draws)
+    };
+    if fault.has_stray_bit() {
+        relations.add_stray();
     }
-    let last = draw(more);
-    add_stray(&mut causes, form, n, last % 8);
-    call(
-        rt,
-        size,
-        causes,
-        stalls,
-        with_fault(form, n, n + more % 4, last % 8),
-    )?;
-    Ok(last)
+    call(rt, &relations, fault.given(form, n, room))
 }
 
-// The turns of the first form; gives the state after them.
-fn first_turns(rt: &impl Print) -> io::Result<usize> {
-    let mut state: usize = 1;
-    let mut t: usize = 0;
-    while t < 2400 {
-        state = turn(rt, first_form(), t % 32 + 1, t / 32, 64, state)?;
-        t += 1;
+// The turns of a round.
+fn play_round(rt: &impl Print, draws: &mut Draws, form: Form, round: usize) -> io::Result<()>
+    requires { round < 75 }
+{
+    for n in 1..=form.most() {
+        turn(rt, draws, form, n, round)?;
     }
-    Ok(state)
+    Ok(())
+}
+
+// All turns of a form.
+fn play(rt: &impl Print, draws: &mut Draws, form: Form) -> io::Result<()> {
+    for round in 0..form.rounds() {
+        play_round(rt, draws, form, round)?;
+    }
+    Ok(())
 }
 
 fn main(rt: HostRuntime) -> io::Result<()> {
-    let mut state: usize = first_turns(&rt)?;
-    let mut t: usize = 0;
-    while t < 1280 {
-        state = turn(&rt, second_form(), t % 64 + 1, t / 64, 16, state)?;
-        t += 1;
-    }
-    Ok(())
+    let mut draws = Draws::new();
+    play(&rt, &mut draws, Form::First)?;
+    play(&rt, &mut draws, Form::Second)
 }
