@@ -19,7 +19,7 @@
 // Everything in a line is parted by one blank.
 #![tactic(auto)]
 
-ghost use Rattle.std.specs.Prelude.{◌<◌, ◌≤◌, length};
+ghost use Rattle.std.specs.Prelude.{◌<◌, ◌≤◌, IfSome};
 ghost use Rattle.tables.specs.Cells.{TablesOk};
 ghost use Rattle.cases.specs.Printable.{Printable};
 
@@ -28,113 +28,136 @@ use protocol::whole::Reading;
 use rules::Network;
 use std::io;
 use std::io::Read;
-use tables::{MessageRow, Tables};
+use tables::Tables;
 
-// What stands for a byte where the input has ended.
-const ENDED: usize = 256;
-
-// The most bytes of a text, which is also the length of the buffer. A larger number stands for none.
+// The most bytes of a text, which is also the length of the buffer.
 const MOST: usize = 65536;
 
-const BLANK: usize = 32;
-
-const LINE_END: usize = 10;
-
-// ---- the input
-
-fn first_of(bytes: &[u8]) -> usize
-    requires { 0 < length bytes.now }
-{
-    bytes[0] as usize
+// How many bytes a text has, as its item says.
+#[derive(Clone, Copy)]
+struct TextLength {
+    bytes: usize,
+    ghost fits: { bytes ≤ 65536 },
 }
 
-// The next byte of the input.
-fn next_byte(input: &mut impl Read) -> usize {
+// What the line of an item says.
+#[derive(Clone, Copy)]
+enum Item {
+    Protocol(TextLength),
+    Judge {
+        protocol: TextLength,
+        mapping: TextLength,
+    },
+}
+
+// ---- the line of an item
+
+// The next byte of the input; none where it has ended.
+fn next_byte(input: &mut impl Read) -> Option<u8> {
     let mut one = [0u8; 1];
     let got = files::read_full(input, &mut one);
-    if got == 1 {
-        return first_of(&one);
-    }
-    ENDED
+    one[..got].first().copied()
 }
 
 // Whether the input goes on with these bytes. They are read as far as they agree, and one more.
 fn goes_on_with(input: &mut impl Read, word: &[u8]) -> bool {
-    let mut i: usize = 0;
-    while i < word.len() {
-        if next_byte(input) != word[i] as usize {
+    for byte in word {
+        if next_byte(input) != Some(*byte) {
             return false;
         }
-        i += 1;
     }
     true
 }
 
-// A number that is not above the most, in at most five digits, and the byte that ends it; else a number above the most.
-fn number(input: &mut impl Read, end: usize) -> usize {
-    let mut value: usize = 0;
-    let mut left: usize = 6;
-    while left > 0 {
-        let byte = next_byte(input);
-        if byte == end {
-            return value;
-        }
-        if byte < 48 {
-            return MOST + 1;
-        }
-        if byte > 57 {
-            return MOST + 1;
-        }
-        value = value * 10 + (byte - 48);
-        if value > MOST {
-            return value;
-        }
-        left -= 1;
+// The value of a digit.
+fn digit(byte: u8) -> Option<usize>
+    ensures { IfSome result (λ d. d < 10) }
+{
+    match byte {
+        b'0'..=b'9' => Some(usize::from(byte - b'0')),
+        _ => None,
     }
-    MOST + 1
+}
+
+// A text's length, in at most five digits, and the byte that ends it.
+fn text_length(input: &mut impl Read, end: u8) -> Option<TextLength> {
+    let mut bytes = 0;
+    for _ in 0..6 {
+        let byte = next_byte(input)?;
+        if byte == end {
+            return Some(TextLength { bytes });
+        }
+        bytes = bytes * 10 + digit(byte)?;
+        if bytes > MOST {
+            return None;
+        }
+    }
+    None
+}
+
+// The line of the next item; none at the end of the input, and at a line that is not of this form.
+fn next_item(input: &mut impl Read) -> Option<Item> {
+    match next_byte(input)? {
+        b'p' if goes_on_with(input, b"rotocol ") => {
+            Some(Item::Protocol(text_length(input, b'\n')?))
+        }
+        b'j' if goes_on_with(input, b"udge ") => {
+            let protocol = text_length(input, b' ')?;
+            let mapping = text_length(input, b'\n')?;
+            Some(Item::Judge { protocol, mapping })
+        }
+        _ => None,
+    }
+}
+
+// ---- the texts of an item
+
+// The next bytes of the input, in the room lent for them: so many, or as many as there still are.
+fn next_text<'a>(input: &mut impl Read, length: TextLength, room: &'a mut [u8; MOST]) -> &'a [u8] {
+    let got = files::read_full(input, &mut room[..length.bytes]);
+    &room[..got]
+}
+
+// What the protocol reader answers of the next text.
+fn protocol_of(input: &mut impl Read, length: TextLength) -> Reading
+    ensures { Printable result }
+{
+    let mut room = [0u8; MOST];
+    protocol::read_protocol(next_text(input, length, &mut room))
+}
+
+// What the mapping reader answers of the next text, with the messages of these tables.
+fn mapping_of(input: &mut impl Read, length: TextLength, t: Tables) -> Mapped
+    requires { TablesOk t }
+{
+    let mut room = [0u8; MOST];
+    mapping::read_mapping(
+        next_text(input, length, &mut room),
+        t.messages,
+        t.message_count,
+    )
+}
+
+// Passes over the next text.
+fn pass_over(input: &mut impl Read, length: TextLength) {
+    let mut room = [0u8; MOST];
+    let _ = next_text(input, length, &mut room);
 }
 
 // ---- the output
 
-fn print_word(rt: &impl Print, word: &[u8]) -> io::Result<()> {
-    rt.write_all(word)
-}
-
-// A blank, and a number after it.
-fn print_number(rt: &impl Print, number: usize) -> io::Result<()> {
-    print!(rt; " {number}")
-}
-
-// A blank, and a row after it.
-fn print_row(rt: &impl Print, row: u64) -> io::Result<()> {
-    print!(rt; " {row:x}")
-}
-
-// The rows of the messages.
-fn print_rows(rt: &impl Print, rows: [u64; tables::MESSAGES], count: usize) -> io::Result<()>
-    requires { count ≤ 64 }
-{
-    let mut i: usize = 0;
-    while i < count {
-        print_row(rt, rows[i])?;
-        i += 1;
+// The rows of the messages, in hexadecimal.
+fn print_rows(rt: &impl Print, rows: &[u64]) -> io::Result<()> {
+    for row in rows {
+        print!(rt; " {row:x}")?;
     }
     Ok(())
 }
 
 // The networks of the messages.
-fn print_networks(
-    rt: &impl Print,
-    networks: [Network; tables::MESSAGES],
-    count: usize,
-) -> io::Result<()>
-    requires { count ≤ 64 }
-{
-    let mut i: usize = 0;
-    while i < count {
-        let network = networks[i];
-        print_number(rt, network.0 as usize)?;
-        i += 1;
+fn print_networks(rt: &impl Print, networks: &[Network]) -> io::Result<()> {
+    for network in networks {
+        print!(rt; " {}", network.0)?;
     }
     Ok(())
 }
@@ -146,27 +169,22 @@ fn print_refusal(
     line: usize,
     field: u8,
 ) -> io::Result<()> {
-    print_word(rt, b"refused")?;
-    print_number(rt, number as usize)?;
-    print_number(rt, paper)?;
-    print_number(rt, line)?;
-    print_number(rt, field as usize)
+    print!(rt; "refused {number} {paper} {line} {field}")
 }
 
 fn print_tables(rt: &impl Print, t: Tables) -> io::Result<()>
     requires { TablesOk t }
 {
-    print_word(rt, b"accepted")?;
-    print_number(rt, t.message_count)?;
-    print_number(rt, t.event_count)?;
-    print_number(rt, t.state_count)?;
-    print_number(rt, t.cell_count)?;
+    print!(rt;
+        "accepted {} {} {} {}",
+        t.message_count, t.event_count, t.state_count, t.cell_count
+    )?;
     let causes = table_rows::causes::causes_rows(t);
     let stalls = table_rows::stalls::stalls_rows(t);
-    print_word(rt, b" causes")?;
-    print_rows(rt, causes, t.message_count)?;
-    print_word(rt, b" stalls")?;
-    print_rows(rt, stalls, t.message_count)
+    print!(rt; " causes")?;
+    print_rows(rt, &causes[..t.message_count])?;
+    print!(rt; " stalls")?;
+    print_rows(rt, &stalls[..t.message_count])
 }
 
 // What the protocol reader answers.
@@ -187,136 +205,52 @@ fn print_mapped(rt: &impl Print, m: Mapped, count: usize) -> io::Result<()>
 {
     let networks = m.networks;
     if m.refusal.number == 0 {
-        print_word(rt, b" networks")?;
-        print_networks(rt, networks, count)
+        print!(rt; " networks")?;
+        print_networks(rt, &networks[..count])
     } else {
-        print_word(rt, b" ")?;
+        print!(rt; " ")?;
         print_refusal(rt, m.refusal.number, 1, m.refusal.line, m.refusal.field)
     }
 }
 
-// ---- the items
+// ---- the answers
 
-// As many bytes of the input as there is room, as a protocol text.
-fn protocol_in(input: &mut impl Read, room: &mut [u8]) -> Reading
-    ensures { Printable result }
-{
-    let got = files::read_full(input, room);
-    protocol::read_protocol(&room[..got])
-}
-
-// The next n bytes as a protocol text.
-fn protocol_of(input: &mut impl Read, n: usize) -> Reading
-    requires { n ≤ 65536 }
-    ensures { Printable result }
-{
-    let mut text = [0u8; MOST];
-    protocol_in(input, &mut text[..n])
-}
-
-// As many bytes of the input as there is room, as a mapping text of the first messages.
-fn mapping_in(
+// The answer of a judge item.
+fn judge_item(
+    rt: &impl Print,
     input: &mut impl Read,
-    room: &mut [u8],
-    messages: [MessageRow; tables::MESSAGES],
-    count: usize,
-) -> Mapped
-    requires { count ≤ 64 }
-{
-    let got = files::read_full(input, room);
-    mapping::read_mapping(&room[..got], messages, count)
-}
-
-// The next n bytes as a mapping text of the first messages.
-fn mapping_of(
-    input: &mut impl Read,
-    n: usize,
-    messages: [MessageRow; tables::MESSAGES],
-    count: usize,
-) -> Mapped
-    requires { (n ≤ 65536) × (count ≤ 64) }
-{
-    let mut text = [0u8; MOST];
-    mapping_in(input, &mut text[..n], messages, count)
-}
-
-// A protocol item from its number on; and whether there may be more items.
-fn protocol_item(rt: &impl Print, input: &mut impl Read) -> io::Result<bool> {
-    let n = number(input, LINE_END);
-    if n > MOST {
-        return Ok(false);
-    }
-    let r = protocol_of(input, n);
-    print_reading(rt, r)?;
-    print_word(rt, b"\n")?;
-    Ok(true)
-}
-
-// The mapping text of a judge item, where its protocol was accepted.
-fn judged(rt: &impl Print, input: &mut impl Read, n: usize, t: Tables) -> io::Result<()>
-    requires { (n ≤ 65536) × TablesOk t }
-{
-    let messages = t.messages;
-    let m = mapping_of(input, n, messages, t.message_count);
-    print_mapped(rt, m, t.message_count)
-}
-
-// Passes over the next n bytes.
-fn pass_over(input: &mut impl Read, n: usize)
-    requires { n ≤ 65536 }
-{
-    let mut text = [0u8; MOST];
-    let _ = files::read_full(input, &mut text[..n]);
-}
-
-// A judge item from its first number on; and whether there may be more items.
-fn judge_item(rt: &impl Print, input: &mut impl Read) -> io::Result<bool> {
-    let n = number(input, BLANK);
-    if n > MOST {
-        return Ok(false);
-    }
-    let m = number(input, LINE_END);
-    if m > MOST {
-        return Ok(false);
-    }
-    let r = protocol_of(input, n);
+    protocol: TextLength,
+    mapping: TextLength,
+) -> io::Result<()> {
+    let r = protocol_of(input, protocol);
     print_reading(rt, r)?;
     if r.refusal.number == 0 {
-        judged(rt, input, m, r.tables)?;
+        let m = mapping_of(input, mapping, r.tables);
+        print_mapped(rt, m, r.tables.message_count)
     } else {
-        pass_over(input, m);
+        pass_over(input, mapping);
+        Ok(())
     }
-    print_word(rt, b"\n")?;
-    Ok(true)
 }
 
-// One item; and whether there may be more.
-fn item(rt: &impl Print, input: &mut impl Read) -> io::Result<bool> {
-    let first = next_byte(input);
-    if first == 112 {
-        if goes_on_with(input, b"rotocol ") {
-            return protocol_item(rt, input);
-        }
-        return Ok(false);
+// Reads the texts of an item, and prints its line.
+fn answer(rt: &impl Print, input: &mut impl Read, item: Item) -> io::Result<()> {
+    match item {
+        Item::Protocol(length) => print_reading(rt, protocol_of(input, length))?,
+        Item::Judge { protocol, mapping } => judge_item(rt, input, protocol, mapping)?,
     }
-    if first == 106 {
-        if goes_on_with(input, b"udge ") {
-            return judge_item(rt, input);
-        }
-    }
-    Ok(false)
+    println!(rt;)
 }
 
-// A proved loop has to end, and nothing says that the input does. So the items are counted down, from a number that no
-// run uses up.
+// A proved loop has to end, and nothing says that the input does. So the items are counted, up to a number that no run
+// comes to.
 fn main(rt: HostRuntime) -> io::Result<()> {
     let mut input = rt.stdin();
-    let mut left = u64::MAX;
-    while left > 0 {
-        if !item(&rt, &mut input)? {
-            return Ok(());
-        }
-        left -= 1;
+    for _ in 0..u64::MAX {
+        let Some(item) = next_item(&mut input) else {
+            break;
+        };
+        answer(&rt, &mut input, item)?;
     }
     Ok(())
 }
