@@ -3,13 +3,14 @@ use Prim.Native.Nat.{ℕ, ◌<◌, ◌≤◌}
 use mathlib.Core.Path.{◌≡◌, refl}
 use mathlib.Core.Bool.{Bool, true, false}
 use mathlib.Core.List.{List}
-use lib.ListN.{length}
+use lib.ListN.{length, take}
 use lib.Dec.{ltb}
 use borrow.Author.Tests.{ltb-true, ltb-false}
 use Rattle.determined.specs.Determined.{Determines, DeterminesLent}
 use Rattle.determined.proofs.Equal.{equal}
 use Rattle.papers.specs.declared.Refusal.{Refusal}
 use Rattle.answers.specs.declared.Answer.{Answer}
+use Rattle.answers.specs.declared.PrintedBytes.{PrintedBytes}
 use Rattle.answers.specs.Answers.{refused_at_lem, no_room_lem, finished, packed_answer, Refused, Listed}
 use Rattle.text.specs.Written.{Wrote}
 use Rattle.text.proofs.Determined.{wrote-determined}
@@ -23,6 +24,9 @@ no-room-determined needed = equal _
 
 pub finished-determined : (n : ℕ) → Determines (λ (r : Answer). r ≡ finished n)
 finished-determined n = equal _
+
+pub as-slice-determined : (p : PrintedBytes) → Determines (λ (r : List ℕ). r ≡ take p.length p.bytes)
+as-slice-determined p = equal _
 
 pub packed-determined : (a : Answer) → Determines (λ (r : ℕ). r ≡ packed_answer a)
 packed-determined a = equal _

@@ -3,7 +3,7 @@
 
 pub mod refused_text;
 
-ghost use Rattle.std.specs.Prelude.{◌≡◌};
+ghost use Rattle.std.specs.Prelude.{◌≡◌, ◌≤◌, take};
 ghost use Rattle.answers.specs.Answers.{refused_at_lem, no_room_lem, finished, Small, shown_length_lem, packed_answer};
 
 use papers::Refusal;
@@ -11,11 +11,21 @@ use papers::Refusal;
 // Room for whatever a program prints.
 pub const PRINTED: usize = 4096;
 
-// What a program prints: so many bytes at the front.
+// What a program prints: so many bytes at the front. Memory is fixed, so an array holds them, and no Vec.
 #[derive(Clone, Copy)]
 pub struct PrintedBytes {
     pub bytes: [u8; PRINTED],
     pub length: usize,
+}
+
+impl PrintedBytes {
+    // The bytes that are printed.
+    pub fn as_slice(&self) -> &[u8]
+        requires { self.now.length ≤ 4096 }
+        ensures { result.now ≡ take self.now.length self.now.bytes }
+    {
+        &self.bytes[..self.length]
+    }
 }
 
 // The answer of a call on texts. Every number is 0 unless the paper says otherwise.
