@@ -1,4 +1,4 @@
-// Whole files for the programs, and what an input still has.
+// Whole files for the programs, what an input still has, and the texts that a program is given.
 #![tactic(auto)]
 
 ghost use Rattle.std.specs.Prelude.{◌≡◌, ◌≤◌, length, take};
@@ -17,6 +17,10 @@ fn read_some<R: Read>(input: &mut R, text: &mut [u8]) -> usize
 
 // The bytes that are left, at the front of text, as far as there is room for them. An input that cannot be read counts as the
 // bytes that were read.
+//
+// The loop counts by hand: only a read tells how many bytes come, and std's read_exact tells none where an input ends early.
+// The answer is a count and no slice: the contract speaks of the lent text as it is after the call, which a result that
+// borrows it leaves no name for.
 pub fn read_full<R: Read>(input: &mut R, text: &mut [u8]) -> usize
     ensures in_bounds { result ≤ length text.new }
     ensures same_count { result ≡ length (take result text.new) }
@@ -45,6 +49,40 @@ pub fn read_file<F: Files>(files: &F, name: &[u8], text: &mut [u8]) -> usize
     let Ok(mut file) = fs::open(files, path) else {
         return 0;
     };
-    let n = read_full(&mut file, text);
-    n
+    read_full(&mut file, text)
+}
+
+// One byte more than the largest text: so much room tells that a text is too big.
+const ROOM: usize = papers::MOST_BYTES + 1;
+
+// A text that a program is given, as far as there is room for it. Memory is fixed, so it stands at the front of an array, and
+// no Vec holds it.
+#[derive(Drop)]
+pub struct Text {
+    pub bytes: [u8; ROOM],
+    pub count: usize,
+    pub ghost in_bounds: { count ≤ 49153 },
+}
+
+impl Text {
+    // The bytes that are left of an input.
+    pub fn of_input<R: Read>(input: &mut R) -> Text {
+        let mut bytes = [0; ROOM];
+        let count = read_full(input, &mut bytes);
+        Text { bytes, count }
+    }
+
+    // The bytes of a file; none where it cannot be opened.
+    pub fn of_file<F: Files>(files: &F, name: &[u8]) -> Text {
+        let mut bytes = [0; ROOM];
+        let count = read_file(files, name, &mut bytes);
+        Text { bytes, count }
+    }
+
+    // The text itself.
+    pub fn as_slice(&self) -> &[u8]
+        ensures { result.now ≡ take self.now.count self.now.bytes }
+    {
+        &self.bytes[..self.count]
+    }
 }
