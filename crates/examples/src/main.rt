@@ -5,57 +5,40 @@
 // The files data/ and stdout are made from the folder examples/ by tools/examples.
 #![tactic(auto)]
 
+use files::Text;
 use std::io;
 use std::rt::Files;
 
-// One byte more than the largest text: so much tells that a text is too big.
-const MOST: usize = papers::MOST_BYTES + 1;
-
-// The longest list.
+// The longest list: what stands behind it is not read.
 const LIST: usize = 8192;
 
 fn planned(rt: &(impl Files + Print), file: &[u8]) -> io::Result<()> {
-    let mut text = [0u8; MOST];
-    let n = files::read_file(rt, file, &mut text);
-    let p = plan::program::print_plan(&text[..n]);
-    let bytes = p.bytes;
-    let k = p.length;
-    rt.write_all(&bytes[..k])
+    let protocol = Text::of_file(rt, file);
+    let printed = plan::program::print_plan(protocol.as_slice());
+    rt.write_all(printed.as_slice())
 }
 
 fn judged(rt: &(impl Files + Print), file: &[u8], other: &[u8]) -> io::Result<()> {
-    let mut protocol = [0u8; MOST];
-    let n = files::read_file(rt, file, &mut protocol);
-    let mut mapping = [0u8; MOST];
-    let m = files::read_file(rt, other, &mut mapping);
-    let p = judge::program::print_judgement(&protocol[..n], &mapping[..m]);
-    let bytes = p.bytes;
-    let k = p.length;
-    rt.write_all(&bytes[..k])
+    let protocol = Text::of_file(rt, file);
+    let mapping = Text::of_file(rt, other);
+    let printed = judge::program::print_judgement(protocol.as_slice(), mapping.as_slice());
+    rt.write_all(printed.as_slice())
 }
 
 // The answer of one line of the list.
 fn answer(rt: &(impl Files + Print), line: &[u8]) -> io::Result<()> {
     rt.write_all(line)?;
     rt.write_all(b"\n")?;
-    let e = text::find(line, 9, 0, line.len());
-    if e == line.len() {
-        return planned(rt, line);
+    match line.iter().position(|byte| *byte == b'\t') {
+        Some(tab) => judged(rt, &line[..tab], &line[tab + 1..]),
+        None => planned(rt, line),
     }
-    let rest = e + 1;
-    judged(rt, &line[..e], &line[rest..])
 }
 
 // The answers of all lines.
 fn answers(rt: &(impl Files + Print), lines: &[u8]) -> io::Result<()> {
-    let mut at = 0;
-    while at < lines.len() {
-        let e = text::find(lines, 10, at, lines.len());
-        answer(rt, &lines[at..e])?;
-        if e == lines.len() {
-            return Ok(());
-        }
-        at = e + 1;
+    for line in lines.split_inclusive(|byte| *byte == b'\n') {
+        answer(rt, line.strip_suffix(b"\n").unwrap_or(line))?;
     }
     Ok(())
 }

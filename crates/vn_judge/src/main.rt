@@ -2,18 +2,12 @@
 // A file that can't be opened counts as an empty text.
 #![tactic(auto)]
 
+use files::Text;
 use std::io;
 
-// One byte more than the largest text: so much tells that a text is too big.
-const MOST: usize = papers::MOST_BYTES + 1;
-
 fn main(rt: HostRuntime) -> io::Result<()> {
-    let mut protocol = [0u8; MOST];
-    let n = files::read_file(&rt, b"protocol.tsv", &mut protocol);
-    let mut mapping = [0u8; MOST];
-    let m = files::read_file(&rt, b"mapping.tsv", &mut mapping);
-    let p = judge::program::print_judgement(&protocol[..n], &mapping[..m]);
-    let bytes = p.bytes;
-    let k = p.length;
-    rt.write_all(&bytes[..k])
+    let protocol = Text::of_file(&rt, b"protocol.tsv");
+    let mapping = Text::of_file(&rt, b"mapping.tsv");
+    let printed = judge::program::print_judgement(protocol.as_slice(), mapping.as_slice());
+    rt.write_all(printed.as_slice())
 }
