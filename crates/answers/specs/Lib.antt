@@ -1,2 +1,3 @@
 pub mod Answers
 pub mod refused_text
+pub mod unlisted

@@ -2,11 +2,13 @@
 #![tactic(auto)]
 
 pub mod refused_text;
+pub mod unlisted;
 
 ghost use Rattle.std.specs.Prelude.{◌≡◌, ◌≤◌, take};
 ghost use Rattle.answers.specs.Answers.{refused_at_lem, no_room_lem, finished, Small, shown_length_lem, packed_answer};
 
 use papers::Refusal;
+use papers::refused::Reason;
 
 // Room for whatever a program prints.
 pub const PRINTED: usize = 4096;
@@ -59,7 +61,7 @@ pub fn no_room(needed: usize) -> Answer
 {
     Answer {
         refusal: Refusal {
-            number: papers::ROOM,
+            number: Reason::Room as u8,
             line: 0,
             field: 0,
         },
@@ -89,7 +91,7 @@ pub fn listed(length: usize) -> Answer
 fn shown_length(a: Answer) -> usize
     ensures { result ≡ shown_length_lem a }
 {
-    if a.refusal.number == papers::ROOM {
+    if a.refusal.number == Reason::Room as u8 {
         return a.needed;
     }
     a.length

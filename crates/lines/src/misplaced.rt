@@ -25,13 +25,13 @@ pub fn misplaced(line: &Record, nth: usize) -> Refused
     requires { says (split 9 line.now.bytes.now) 0 cell_word ≡ false }
     ensures { Misplaced nth line.now.bytes.now (told_refusal result) }
 {
-    if line.is(&text::words::MESSAGE) {
+    if line.is(text::words::MESSAGE) {
         return late(crate::shapes::message_shape(line), nth);
     }
-    if line.is(&text::words::EVENT) {
+    if line.is(text::words::EVENT) {
         return late(crate::shapes::event_shape(line), nth);
     }
-    if line.is(&text::words::STATE) {
+    if line.is(text::words::STATE) {
         return late(crate::shapes::state_shape(line), nth);
     }
     Refused::at(Reason::Shape, nth, Field(1))

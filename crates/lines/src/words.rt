@@ -12,16 +12,16 @@ pub(crate) fn kind_at(line: &Record, i: usize) -> Option<Kind>
     requires { i < line.now.fields.count }
     ensures { result ≡ found_kind (field (split 9 line.now.bytes.now) i) }
 {
-    if line.says(i, &text::words::REQ) {
+    if line.says(i, text::words::REQ) {
         return Some(Kind::Req);
     }
-    if line.says(i, &text::words::FWD) {
+    if line.says(i, text::words::FWD) {
         return Some(Kind::Fwd);
     }
-    if line.says(i, &text::words::DATA) {
+    if line.says(i, text::words::DATA) {
         return Some(Kind::Data);
     }
-    if line.says(i, &text::words::CTL) {
+    if line.says(i, text::words::CTL) {
         return Some(Kind::Ctl);
     }
     None
@@ -34,10 +34,10 @@ pub fn controller_at(line: &Record, i: usize) -> Option<Controller>
     requires { i < line.now.fields.count }
     ensures { result ≡ found_controller (field (split 9 line.now.bytes.now) i) }
 {
-    if line.says(i, &text::words::CACHE) {
+    if line.says(i, text::words::CACHE) {
         return Some(Controller::Cache);
     }
-    if line.says(i, &text::words::DIR) {
+    if line.says(i, text::words::DIR) {
         return Some(Controller::Dir);
     }
     None
@@ -48,10 +48,10 @@ pub(crate) fn stability_at(line: &Record, i: usize) -> Option<Stability>
     requires { i < line.now.fields.count }
     ensures { result ≡ found_stability (field (split 9 line.now.bytes.now) i) }
 {
-    if line.says(i, &text::words::STABLE) {
+    if line.says(i, text::words::STABLE) {
         return Some(Stability::Stable);
     }
-    if line.says(i, &text::words::TRANSIENT) {
+    if line.says(i, text::words::TRANSIENT) {
         return Some(Stability::Transient);
     }
     None

@@ -16,7 +16,7 @@ use tables::Tables;
 pub fn read_protocol(text: &[u8]) -> Result<Tables, Refused>
     ensures { reading_of result ≡ read_protocol_lem text.now }
 {
-    papers::opening(&text::words::PROTOCOL_HEADER, text)?;
+    papers::opening(text::words::PROTOCOL_HEADER, text)?;
     let mut t = tables::cleared();
     let second = LineStart {
         at: text::find(text, 10, 0, text.len()) + 1,

@@ -32,10 +32,10 @@ fn is_of(section: Section, line: &Record) -> bool
     ensures { result ≡ says_of (section_lem section) (split 9 line.now.bytes.now) }
 {
     match section {
-        Section::Message => line.is(&text::words::MESSAGE),
-        Section::Event => line.is(&text::words::EVENT),
-        Section::State => line.is(&text::words::STATE),
-        Section::Cell => line.is(&text::words::CELL),
+        Section::Message => line.is(text::words::MESSAGE),
+        Section::Event => line.is(text::words::EVENT),
+        Section::State => line.is(text::words::STATE),
+        Section::Cell => line.is(text::words::CELL),
     }
 }
 
