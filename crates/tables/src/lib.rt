@@ -4,7 +4,7 @@
 pub mod conflicts;
 pub mod names;
 
-ghost use Rattle.std.specs.Prelude.{◌≡◌, ◌≤◌};
+ghost use Rattle.std.specs.Prelude.{◌≡◌, ◌≤◌, length};
 ghost use Rattle.tables.specs.Tables.{no_cell_lem, cleared_tables};
 
 use rules::{Event, Message, State};
@@ -106,7 +106,8 @@ impl Tables {
     // The messages that are declared, in the order of the file.
     pub fn messages(&self) -> &[MessageRow]
         requires { self.now.message_count ≤ 64 }
-        ensures { result.now ≡ messages_of_lem self.now }
+        ensures rows { result.now ≡ messages_of_lem self.now }
+        ensures many { length result.now ≡ self.now.message_count }
     {
         &self.messages[..self.message_count]
     }
@@ -114,7 +115,8 @@ impl Tables {
     // The events that are declared.
     pub fn events(&self) -> &[EventRow]
         requires { self.now.event_count ≤ 8 }
-        ensures { result.now ≡ events_of self.now }
+        ensures rows { result.now ≡ events_of self.now }
+        ensures many { length result.now ≡ self.now.event_count }
     {
         &self.events[..self.event_count]
     }
@@ -122,7 +124,8 @@ impl Tables {
     // The states that are declared, of both controllers.
     pub fn states(&self) -> &[StateRow]
         requires { self.now.state_count ≤ 64 }
-        ensures { result.now ≡ states_of self.now }
+        ensures rows { result.now ≡ states_of self.now }
+        ensures many { length result.now ≡ self.now.state_count }
     {
         &self.states[..self.state_count]
     }
@@ -130,7 +133,8 @@ impl Tables {
     // The cells that are stored.
     pub fn cells(&self) -> &[Cell]
         requires { self.now.cell_count ≤ 512 }
-        ensures { result.now ≡ stored_of self.now }
+        ensures rows { result.now ≡ stored_of self.now }
+        ensures many { length result.now ≡ self.now.cell_count }
     {
         &self.cells[..self.cell_count]
     }
