@@ -9,14 +9,12 @@ use lib.ListN.{length, replicate, length-drop, length-map, drop_of_length-le}
 use lib.Seq.{take_at}
 use lib.Dec.{leb}
 use borrow.Author.Tests.{ltb-true}
+use Rattle.std.specs.Prelude.{Ok}
 use Rattle.rules.specs.Lists.{◌∈◌}
 use Rattle.text.specs.Parts.{split}
 use Rattle.text.specs.Words.{stall_word, cell_word}
 use Rattle.tables.specs.declared.Trigger.TheVariants.{Message as OnMessage, Event as OnEvent}
 use Rattle.tables.specs.declared.Outcome.TheVariants.{Stall, Go}
-use Rattle.tables.specs.declared.MessageRow.{MessageRow}
-use Rattle.tables.specs.declared.EventRow.{EventRow}
-use Rattle.tables.specs.declared.StateRow.{StateRow}
 use Rattle.tables.specs.declared.Cell.{Cell}
 use Rattle.tables.specs.declared.Tables.{Tables}
 use Rattle.tables.specs.Cells.{number, TriggerOk, OutcomeOk, CellOk, sent_numbers as numbers_of}
@@ -27,12 +25,10 @@ use Rattle.lines.specs.Checks.{shaped, is_trigger, is_cache, all_messages, known
 use Rattle.lines.proofs.Reasons.{Reason, tells-number, one_number, line_reason, refuses}
 use Rattle.lines.proofs.Sections.{a-cell}
 use Rattle.lines.proofs.Both.{and_left, and_right}
-use Rattle.cells.specs.declared.CellLine.{CellLine}
 use Rattle.cells.specs.Told.{CellTold}
 use Rattle.cells.specs.shapes.Shape.{StallLine, GoLine}
 use Rattle.cells.proofs.shapes.Shapes.{shaped-way}
 use Rattle.cells.proofs.Judging.{in_order}
-use Rattle.tables.proofs.Given.{given, given-declared}
 
 -- ---- what is known of a line that is not refused
 
@@ -130,15 +126,11 @@ cell-of-ok t f e =
       sent = λ b m. sent-below t (sent_fields f) s.1 b (subst (λ (l : List ℕ). b ∈ l) (stored t f) m);
     }
 
-pub cell-ok : (k : ℕ) (line : List ℕ)
-    (messages : List MessageRow) (message-count : ℕ) (events : List EventRow) (event-count : ℕ) (states : List StateRow) (state-count : ℕ)
-    (cells : List Cell) (count : ℕ) (r : CellLine)
-    → says (split 9 line) 0 cell_word ≡ true → CellTold k line messages message-count events event-count states state-count cells count r → r.refusal.number ≡ 0
-    → CellOk message-count event-count state-count r.cell
-cell-ok k line messages message-count events event-count states state-count cells count r first c z =
-    let t = given messages message-count events event-count states state-count cells count in
-    let d = given-declared messages message-count events event-count states state-count cells count in
+-- the cell that a line was told to stand for
+pub cell-ok : (k : ℕ) (line : List ℕ) (t : Tables) (c : Cell) → says (split 9 line) 0 cell_word ≡ true → CellTold k line t (Ok c)
+    → CellOk t.message_count t.event_count t.state_count c
+cell-ok k line t c first r =
     let f = split 9 line in
-    let n : (line_reason cell t f).number ≡ r.refusal.number =
-    sym (tells-number (line_reason cell t f) k) ∙ one_number (sym (refuses line t cell (line_reason cell t f) k (a-cell f first) refl) ∙ c.told t d refl refl) in
-    subst (λ (x : Cell). CellOk message-count event-count state-count x) (sym (c.cell t d z)) (cell-of-ok t f (n ∙ z))
+    let n : (line_reason cell t f).number ≡ 0 =
+    sym (tells-number (line_reason cell t f) k) ∙ one_number (sym (refuses line t cell (line_reason cell t f) k (a-cell f first) refl) ∙ r.told) in
+    rw r.cell (cell-of-ok t f n)

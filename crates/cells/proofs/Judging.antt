@@ -1,35 +1,31 @@
 -- How a cell's line is refused: by its shape, or by what is read of it.
 use Prim.Native.Nat.{ℕ, ◌≤◌, ◌<◌}
-use mathlib.Core.Path.{◌≡◌, refl, sym, ap, ap₂, ◌∙◌}
+use mathlib.Core.Path.{◌≡◌, refl, sym, ap, ◌∙◌}
 use mathlib.Core.Bool.{Bool, true, false, not}
 use mathlib.Core.List.{List}
-use native.Mathlib.Omega.{arith}
-use lib.ListN.{take}
 use lib.Dec.{leb}
 use borrow.Author.Tests.{le-leb, lt-leb}
+use Rattle.std.specs.Prelude.{Result, Ok, Err}
 use Rattle.text.specs.Parts.{split}
 use Rattle.text.specs.Words.{cell_word}
 use Rattle.papers.specs.declared.Refusal.{Refusal}
-use Rattle.papers.specs.Checks.{field_refusal, none, first_of}
-use Rattle.tables.specs.declared.MessageRow.{MessageRow}
-use Rattle.tables.specs.declared.EventRow.{EventRow}
-use Rattle.tables.specs.declared.StateRow.{StateRow}
+use Rattle.papers.specs.declared.refused.Field.{Field}
+use Rattle.papers.specs.declared.refused.Refused.{Refused}
+use Rattle.papers.specs.refused.Refused.{told_refusal}
+use Rattle.papers.specs.Checks.{field_refusal, first_of}
 use Rattle.tables.specs.declared.Cell.{Cell}
 use Rattle.tables.specs.declared.Tables.{Tables}
-use Rattle.tables.specs.Tables.{no_cell_lem}
+use Rattle.tables.specs.Tables.{stored_of}
 use Rattle.tables.specs.Clash.{any_clash_lem}
 use Rattle.text.specs.Line.{Line, says}
-use Rattle.lines.specs.Line.{cell}
-use Rattle.lines.specs.Checks.{shaped, known_cell, stall_in_stable, conflict, section_checks, shape_field, unknown_field}
-use Rattle.lines.proofs.Reasons.{Reason, reason, tells, eight_of, line_reason, section-told, in-section, refuses}
+use Rattle.lines.specs.Line.{cell, cell_of}
+use Rattle.lines.specs.Checks.{shaped, known_cell, stall_in_stable, conflict, section_checks, shape_field, unknown_field, cell_names}
+use Rattle.lines.proofs.Reasons.{Reason, tells, eight_of, line_reason, section-told, in-section}
 use Rattle.lines.proofs.Sections.{a-cell}
 use Rattle.cells.specs.declared.readings.CellReading.{CellReading}
-use Rattle.cells.specs.declared.CellLine.{CellLine}
-use Rattle.cells.specs.declared.shapes.Shape.TheVariants.{Wrong}
-use Rattle.cells.specs.shapes.Shape.{shape_of}
 use Rattle.cells.specs.readings.Known.{CellRead}
-use Rattle.cells.specs.Told.{CellTold, refused_line, ReadAs, CellJudged}
-use Rattle.cells.proofs.shapes.Shapes.{wrong-shape}
+use Rattle.cells.specs.Told.{CellTold, ReadAs, CellJudged}
+use Rattle.cells.proofs.Names.{ok-known, err-unknown}
 
 -- ---- why the line is refused
 
@@ -42,94 +38,69 @@ pub in_order : (t : Tables) (f : Line) (a b c d e : Bool) → shaped cell f ≡ 
 unfolding line_reason
 in_order t f a b c d e p q r s u = same-eight (shape_field cell f) (unknown_field cell t f) p q r s u
 
--- ---- what is read of the line
+module _ (t : Tables) (k : ℕ) (f : Line) where
+  abbrev judgement : Bool → Bool → Bool → Bool → Bool → Refusal
+  judgement a b c d e = tells (eight_of (shape_field cell f) 0 (unknown_field cell t f) 0 (not a) false false (not b) false c d e) k
 
--- the refusal and the cell of a line
-why : {l m : CellLine} → l ≡ m → l.refusal ≡ m.refusal
-why e = ap (λ (x : CellLine). x.refusal) e
+  -- the line's checks by their tests
+  by : (a b c d e : Bool) → shaped cell f ≡ a → known_cell t f ≡ b → leb 512 t.cell_count ≡ c → stall_in_stable cell t f ≡ d → conflict cell t f ≡ e
+      → first_of (section_checks cell t k f) ≡ judgement a b c d e
+  by a b c d e p q r s u = section-told cell t k f ∙ ap (λ (n : Reason). tells n k) (in_order t f a b c d e p q r s u)
 
-why_number : {l m : CellLine} → l ≡ m → l.refusal.number ≡ m.refusal.number
-why_number e = ap (λ (x : CellLine). x.refusal.number) e
+  -- a line of another shape, and a shaped one with a name that is not known
+  misshapen : shaped cell f ≡ false → first_of (section_checks cell t k f) ≡ field_refusal 4 k (shape_field cell f)
+  misshapen s = by false (known_cell t f) (leb 512 t.cell_count) (stall_in_stable cell t f) (conflict cell t f) s refl refl refl refl
 
-module _ (at : CellReading) (k : ℕ) (cells : List Cell) (count : ℕ) where
-  abbrev Given : Refusal → Type 0
-  Given r = (t : Tables) (f : Line) → ReadAs t f at → t.cells ≡ cells → t.cell_count ≡ count → first_of (section_checks cell t k f) ≡ r
+  not_known : shaped cell f ≡ true → known_cell t f ≡ false → first_of (section_checks cell t k f) ≡ field_refusal 7 k (unknown_field cell t f)
+  not_known s n = by true false (leb 512 t.cell_count) (stall_in_stable cell t f) (conflict cell t f) s n refl refl refl
 
-  refuse : (n j : ℕ) (l : CellLine) → (n ≡ 0 → ⊥) → l ≡ refused_line n j k → Given (field_refusal n k j) → CellJudged at k cells count l
-  refuse n j l h e g =
-      record {
-        told = λ t f a p q. g t f a p q ∙ sym (why e);
-        known = λ z. absurd (h (sym (why_number e) ∙ z));
-        cell = λ z. absurd (h (sym (why_number e) ∙ z));
-        cleared = λ z. ap (λ (x : CellLine). x.cell) e;
-      }
+-- ---- by what is read of it
 
-  pub not_known : (l : CellLine) → at.known ≡ false → l ≡ refused_line 7 at.field k → CellJudged at k cells count l
-  not_known l h e =
-      refuse 7 at.field l (λ z. omega arith) e
-      (λ t f a p q. section-told cell t k f
-      ∙ ap (λ (n : Reason). tells n k) (in_order t f true false (leb 512 t.cell_count) (stall_in_stable cell t f) (conflict cell t f) a.shape (sym a.known ∙ h) refl refl refl)
-      ∙ ap (λ (j : ℕ). field_refusal 7 k j) (sym a.first_bad))
+module _ (at : CellReading) (k : ℕ) (t : Tables) where
+  -- the tests of a line all of whose names are known
+  known-by : (b c d : Bool) → leb 512 t.cell_count ≡ b → at.stuck ≡ c → any_clash_lem at.cell (stored_of t) ≡ d
+      → (f : Line) → ReadAs t f at → first_of (section_checks cell t k f) ≡ tells (eight_of 0 0 0 0 false false false false false b c d) k
+  known-by b c d u v w f a =
+      by t k f true true b c d a.shape a.known u (sym a.stuck ∙ v) (ap (λ (x : Cell). any_clash_lem x (stored_of t)) (sym a.cell) ∙ w)
 
-  module _ (h : at.known ≡ true) where
-    -- the tests of a line all of whose names are known
-    by : (b c d : Bool) → leb 512 count ≡ b → at.stuck ≡ c → any_clash_lem at.cell (take count cells) ≡ d → Given (tells (eight_of 0 0 0 0 false false false false false b c d) k)
-    by b c d u v w t f a p q =
-        section-told cell t k f
-        ∙ ap (λ (n : Reason). tells n k)
-        (in_order t f true true b c d a.shape (sym a.known ∙ h) (ap (leb 512) q ∙ u) (sym (a.stuck h) ∙ v)
-        (ap₂ any_clash_lem (sym (a.cell h)) (ap₂ (λ (n : ℕ) (l : List Cell). take n l) q p) ∙ w))
+  module _ (r : Refused) where
+    pub too_many : 512 ≤ t.cell_count → told_refusal r ≡ field_refusal 9 k 0 → CellJudged at k t (Err r)
+    too_many g e = record { told = λ f a. known-by true at.stuck (any_clash_lem at.cell (stored_of t)) (le-leb 512 t.cell_count g) refl refl f a ∙ sym e; cell = tt }
 
-    pub too_many : (l : CellLine) → 512 ≤ count → l ≡ refused_line 9 0 k → CellJudged at k cells count l
-    too_many l g e = refuse 9 0 l (λ z. omega arith) e (by true at.stuck (any_clash_lem at.cell (take count cells)) (le-leb 512 count g) refl refl)
+    pub stuck_there : t.cell_count < 512 → at.stuck ≡ true → told_refusal r ≡ field_refusal 10 k 0 → CellJudged at k t (Err r)
+    stuck_there g s e = record { told = λ f a. known-by false true (any_clash_lem at.cell (stored_of t)) (lt-leb 512 t.cell_count g) s refl f a ∙ sym e; cell = tt }
 
-    module _ (g : count < 512) where
-      pub stuck_there : (l : CellLine) → at.stuck ≡ true → l ≡ refused_line 10 0 k → CellJudged at k cells count l
-      stuck_there l s e = refuse 10 0 l (λ z. omega arith) e (by false true (any_clash_lem at.cell (take count cells)) (lt-leb 512 count g) s refl)
+    pub clashing : t.cell_count < 512 → at.stuck ≡ false → any_clash_lem at.cell (stored_of t) ≡ true → told_refusal r ≡ field_refusal 11 k 0 → CellJudged at k t (Err r)
+    clashing g s c e = record { told = λ f a. known-by false false true (lt-leb 512 t.cell_count g) s c f a ∙ sym e; cell = tt }
 
-      module _ (s : at.stuck ≡ false) where
-        pub clashing : (l : CellLine) → any_clash_lem at.cell (take count cells) ≡ true → l ≡ refused_line 11 0 k → CellJudged at k cells count l
-        clashing l a e = refuse 11 0 l (λ z. omega arith) e (by false false true (lt-leb 512 count g) s a)
-
-        pub accepted : (l : CellLine) → any_clash_lem at.cell (take count cells) ≡ false → l.refusal ≡ none → l.cell ≡ at.cell → CellJudged at k cells count l
-        accepted l a n e =
-            record {
-              told = λ t f r p q. by false false false (lt-leb 512 count g) s a t f r p q ∙ sym n;
-              known = λ z. h;
-              cell = λ z. e;
-              cleared = λ z. absurd (z (ap (λ (x : Refusal). x.number) n));
-            }
+  pub accepted : t.cell_count < 512 → at.stuck ≡ false → any_clash_lem at.cell (stored_of t) ≡ false → CellJudged at k t (Ok at.cell)
+  accepted g s c = record { told = known-by false false false (lt-leb 512 t.cell_count g) s c; cell = refl }
 
 -- ---- the line
 
-module _ (k : ℕ) (line : List ℕ)
-    (messages : List MessageRow) (message-count : ℕ) (events : List EventRow) (event-count : ℕ) (states : List StateRow) (state-count : ℕ)
-    (cells : List Cell) (count : ℕ)
-    (first : says (split 9 line) 0 cell_word ≡ true) where
-  -- a line of another shape
-  pub misshapen : (l : CellLine) (x : ℕ) → Wrong x ≡ shape_of (split 9 line) → l ≡ refused_line 4 x k
-      → CellTold k line messages message-count events event-count states state-count cells count l
-  misshapen l x w e =
-      record {
-        told = λ t d p q.
-            refuses line t cell (reason 4 x) k (a-cell (split 9 line) first)
-            (in_order t (split 9 line) false (known_cell t (split 9 line)) (leb 512 t.cell_count) (stall_in_stable cell t (split 9 line)) (conflict cell t (split 9 line)) (wrong-shape (split 9 line) x w).0 refl refl refl refl ∙ ap (reason 4) (sym (wrong-shape (split 9 line) x w).1))
-            ∙ sym (why e);
-        cell = λ t d z. absurd (omega (arith, why_number e));
-        cleared = λ z. ap (λ (x : CellLine). x.cell) e;
-      }
+module _ (k : ℕ) (line : List ℕ) (t : Tables) (first : says (split 9 line) 0 cell_word ≡ true) where
+  abbrev f : Line
+  f = split 9 line
 
-  pub judged-told : (at : CellReading) → CellRead (split 9 line) messages message-count events event-count states state-count at → shaped cell (split 9 line) ≡ true
-      → (l : CellLine) → CellJudged at k cells count l → CellTold k line messages message-count events event-count states state-count cells count l
-  judged-told at read shape l j =
-      record {
-        told = λ t d p q.
-            in-section t k (split 9 line) cell (a-cell (split 9 line) first)
-            ∙ j.told t (split 9 line) (record { shape = shape; known = read.known t d; first_bad = read.first_bad t d; stuck = read.stuck t d; cell = read.cell t d }) p q;
-        cell = λ t d z. j.cell z ∙ read.cell t d (j.known z);
-        cleared = j.cleared;
-      }
+  refused : (r : Refused) {n : Refusal} → first_of (section_checks cell t k f) ≡ n → told_refusal r ≡ n → CellTold k line t (Err r)
+  refused r e q = record { told = in-section t k f cell (a-cell f first) ∙ e ∙ sym q; cell = tt }
 
--- a refused line, of the cell that tables are cleared to
-pub refused-is : (n j k : ℕ) (x : Cell) → x ≡ no_cell_lem → ◌≡◌ {A = CellLine} (record { refusal = field_refusal n k j; cell = x }) (refused_line n j k)
-refused-is n j k x e = cc
+  pub other_shape : (x : Field) → (shaped cell f ≡ false) × (x.0 ≡ shape_field cell f) → (r : Refused) → told_refusal r ≡ field_refusal 4 k x.0 → CellTold k line t (Err r)
+  other_shape x s r q = refused r (misshapen t k f s.0) (rw (← s.1) q)
+
+  module _ (s : shaped cell f ≡ true) where
+    abbrev read : CellReading
+    read = record { stuck = stall_in_stable cell t f; cell = cell_of t f }
+
+    pub unknown_name : (x : Field) → CellRead f t (Err x) → (r : Refused) → told_refusal r ≡ field_refusal 7 k x.0 → CellTold k line t (Err r)
+    unknown_name x e r q =
+        let u = err-unknown read (cell_names t f) (known_cell t f) x e in
+        refused r (not_known t k f s u.0) (rw u.1 at q)
+
+    pub told-judged : (at : CellReading) → CellRead f t (Ok at) → (r : Result Cell Refused) → CellJudged at k t r → CellTold k line t r
+    told-judged at e r j =
+        let u = ok-known read (cell_names t f) (known_cell t f) at e in
+        record {
+          told = in-section t k f cell (a-cell f first) ∙ j.told f (record { shape = s; known = u.0; stuck = ap (λ (x : CellReading). x.stuck) u.1; cell = ap (λ (x : CellReading). x.cell) u.1 });
+          cell = rw (ap (λ (x : CellReading). x.cell) u.1) at j.cell;
+        }

@@ -1,4 +1,6 @@
-mod Unknown
+pub mod Names
+pub mod Named
+pub mod Mapped
 pub mod Judging
-pub mod Determined
 pub mod InRange
+pub mod Determined

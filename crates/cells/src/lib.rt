@@ -1,4 +1,4 @@
-// A cell's line of a protocol text: how it is refused, and the cell it stands for.
+// A cell's line of a protocol text: the cell it stands for, or how it is refused.
 #![tactic(auto)]
 
 pub mod places;
@@ -10,112 +10,38 @@ ghost use Rattle.std.specs.Prelude.{◌≡◌, true, ◌≤◌};
 ghost use Rattle.text.specs.Parts.{split};
 ghost use Rattle.text.specs.Words.{cell_word};
 ghost use Rattle.text.specs.Line.{says};
-ghost use Rattle.lines.specs.Told.{FieldsAre};
-ghost use Rattle.cells.specs.Told.{CellTold, refused_line, CellJudged};
+ghost use Rattle.cells.specs.Told.{CellTold, CellJudged};
 
 use crate::readings::CellReading;
-use crate::shapes::Shape;
-use papers::Refusal;
-use tables::{Cell, EventRow, MessageRow, StateRow};
-use text::Fields;
+use papers::records::Record;
+use papers::refused::{Field, Reason, Refused};
+use tables::{Cell, Tables};
 
-// How the line is refused, and the cell where it is not.
-#[derive(Clone, Copy)]
-pub struct CellLine {
-    pub refusal: Refusal,
-    pub cell: Cell,
-}
-
-// The nth line, which is refused for this field of it, answers the cleared cell.
-fn refused(number: u8, field: u8, nth: usize) -> CellLine
-    ensures { result ≡ refused_line number field nth }
+// The refusals 9 to 11 of the nth line, the smallest number first.
+fn judged(at: CellReading, nth: usize, t: &Tables) -> Result<Cell, Refused>
+    requires { t.now.cell_count ≤ 512 }
+    ensures { CellJudged at nth t.now result }
 {
-    let cell = tables::no_cell();
-    CellLine {
-        refusal: Refusal {
-            number: number,
-            line: nth,
-            field: field,
-        },
-        cell: cell,
-    }
-}
-
-// The refusals 7 to 11 of the nth line, the smallest number first.
-fn judged(at: CellReading, nth: usize, cells: [Cell; tables::CELLS], count: usize) -> CellLine
-    requires { count ≤ 512 }
-    ensures { CellJudged at nth cells count result }
-{
-    if !at.known {
-        return refused(papers::UNKNOWN, at.field, nth);
-    }
-    if tables::CELLS <= count {
-        return refused(papers::FULL, 0, nth);
+    if tables::CELLS <= t.cell_count {
+        return Err(Refused::whole(Reason::Full, nth));
     }
     if at.stuck {
-        return refused(papers::STALL_STABLE, 0, nth);
+        return Err(Refused::whole(Reason::StallStable, nth));
     }
-    let cell = at.cell;
-    if tables::conflicts::any_clash(&cells[..count], &cell) {
-        return refused(papers::CONFLICT, 0, nth);
+    if tables::conflicts::any_clash(t.cells(), &at.cell) {
+        return Err(Refused::whole(Reason::Conflict, nth));
     }
-    CellLine {
-        refusal: Refusal {
-            number: 0,
-            line: 0,
-            field: 0,
-        },
-        cell: cell,
-    }
+    Ok(at.cell)
 }
 
-// How a cell's line is refused, and the cell it stands for.
-pub fn cell_line(
-    line: &[u8],
-    f: Fields,
-    nth: usize,
-    messages: [MessageRow; tables::MESSAGES],
-    message_count: usize,
-    events: [EventRow; tables::EVENTS],
-    event_count: usize,
-    states: [StateRow; tables::STATES],
-    state_count: usize,
-    cells: [Cell; tables::CELLS],
-    count: usize,
-) -> CellLine
-    requires { FieldsAre line.now f × (says (split 9 line.now) 0 cell_word ≡ true) × (message_count ≤ 64) × (event_count ≤ 8) × (state_count ≤ 64) × (count ≤ 512) }
-    ensures { CellTold nth line.now messages message_count events event_count states state_count cells count result }
+// The cell that the nth line stands for, a cell's, or how the line is refused.
+pub fn cell_line(line: &Record, nth: usize, t: &Tables) -> Result<Cell, Refused>
+    requires { (says (split 9 line.now.bytes.now) 0 cell_word ≡ true) × (t.now.message_count ≤ 64) × (t.now.event_count ≤ 8) × (t.now.state_count ≤ 64) × (t.now.cell_count ≤ 512) }
+    ensures { CellTold nth line.now.bytes.now t.now result }
 {
-    let shape = crate::shapes::shape_of(line, f);
-    match shape {
-        Shape::Wrong(field) => refused(papers::SHAPE, field, nth),
-        Shape::Stall(whose) => {
-            let at = crate::readings::stall_of(
-                line,
-                f,
-                whose,
-                messages,
-                message_count,
-                events,
-                event_count,
-                states,
-                state_count,
-            );
-            judged(at, nth, cells, count)
-        }
-        Shape::Go(whose) => {
-            let at = crate::readings::go_of(
-                line,
-                f,
-                whose,
-                messages,
-                message_count,
-                events,
-                event_count,
-                states,
-                state_count,
-            );
-            judged(at, nth, cells, count)
-        }
-    }
+    let misshapen = |field: Field| Refused::at(Reason::Shape, nth, field);
+    let unknown = |field: Field| Refused::at(Reason::Unknown, nth, field);
+    let shape = crate::shapes::shape_of(line).map_err(misshapen)?;
+    let at = crate::readings::reading_of(line, shape, t).map_err(unknown)?;
+    judged(at, nth, t)
 }

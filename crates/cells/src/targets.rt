@@ -2,111 +2,54 @@
 ghost use Rattle.std.specs.Prelude.{◌≤◌};
 ghost use Rattle.text.specs.Parts.{split};
 ghost use Rattle.lines.specs.Line.{sent_fields};
-ghost use Rattle.lines.specs.Told.{FieldsAre};
 ghost use Rattle.cells.specs.targets.Target.{SentTold, TargetTold};
 
+use papers::records::Record;
+use papers::refused::Field;
 use rules::{Message, State};
-use tables::names::{FoundMessage, FoundState};
-use tables::{Controller, MessageRow, StateRow};
-use text::Fields;
+use tables::{Controller, Tables};
 
-// The messages that a line sends, where all are known; else the first field that is not.
+// The messages that a line sends. An array of full size with its count, as in `Cell`: the tables are in fixed memory, with no heap.
 #[derive(Clone, Copy)]
 pub struct Sent {
-    pub known: bool,
-    pub field: u8,
     pub sent: [Message; tables::SENT],
     pub count: u8,
 }
 
-// Where a cell goes to and what it sends, where all of that is known; else the first field that is not.
+// Where a cell goes to and what it sends.
 #[derive(Clone, Copy)]
 pub struct Target {
-    pub known: bool,
-    pub field: u8,
     pub next: State,
-    pub sent: [Message; tables::SENT],
-    pub count: u8,
+    pub sent: Sent,
 }
 
-// The messages sent, which the line names from field 6 on.
-fn sent_of(
-    line: &[u8],
-    f: Fields,
-    messages: [MessageRow; tables::MESSAGES],
-    message_count: usize,
-) -> Sent
-    requires { FieldsAre line.now f × (6 ≤ f.count) × (f.count ≤ 14) × (message_count ≤ 64) }
-    ensures { SentTold (sent_fields (split 9 line.now)) messages message_count result }
+// The messages sent, which the line names from field 6 on, where all are known; else the first field that is not.
+fn sent_of(line: &Record, t: &Tables) -> Result<Sent, Field>
+    requires { (6 ≤ line.now.fields.count) × (line.now.fields.count ≤ 14) × (t.now.message_count ≤ 64) }
+    ensures { SentTold (sent_fields (split 9 line.now.bytes.now)) t.now result }
 {
-    let n = f.count - 6;
+    let n = line.count() - 6;
     let mut sent = [Message(0); tables::SENT];
-    let mut j = 0;
-    while j < n {
-        let part = lines::field_at(line, f, 6 + j);
-        let found = tables::names::message_named(messages, message_count, part);
-        let FoundMessage::At(m) = found else {
-            let declared = false;
-            let field = (7 + j) as u8;
-            return Sent {
-                known: declared,
-                field: field,
-                sent: [Message(0); tables::SENT],
-                count: 0,
-            };
+    for j in 0..n {
+        let Some(m) = tables::names::message_named(t.messages(), line.field(6 + j)) else {
+            return Err(Field((7 + j) as u8));
         };
         sent[j] = m;
-        j += 1;
     }
-    let count = n as u8;
-    Sent {
-        known: true,
-        field: 0,
-        sent: sent,
-        count: count,
-    }
+    Ok(Sent {
+        sent,
+        count: n as u8,
+    })
 }
 
-// The next state and the messages sent.
-pub(crate) fn target_of(
-    line: &[u8],
-    f: Fields,
-    whose: Controller,
-    messages: [MessageRow; tables::MESSAGES],
-    message_count: usize,
-    states: [StateRow; tables::STATES],
-    state_count: usize,
-) -> Target
-    requires { FieldsAre line.now f × (6 ≤ f.count) × (f.count ≤ 14) × (message_count ≤ 64) × (state_count ≤ 64) }
-    ensures { TargetTold (split 9 line.now) whose messages message_count states state_count result }
+// The next state and the messages sent, where all of that is known; else the first field that is not.
+pub(crate) fn target_of(line: &Record, whose: Controller, t: &Tables) -> Result<Target, Field>
+    requires { (6 ≤ line.now.fields.count) × (line.now.fields.count ≤ 14) × (t.now.message_count ≤ 64) × (t.now.state_count ≤ 64) }
+    ensures { TargetTold (split 9 line.now.bytes.now) whose t.now result }
 {
-    let to = lines::field_at(line, f, 5);
-    let found = tables::names::state_named(states, state_count, whose, to);
-    let FoundState::At(next) = found else {
-        return Target {
-            known: false,
-            field: 6,
-            next: State(0),
-            sent: [Message(0); tables::SENT],
-            count: 0,
-        };
+    let Some(next) = tables::names::state_named(t.states(), whose, line.field(5)) else {
+        return Err(Field(6));
     };
-    let all = sent_of(line, f, messages, message_count);
-    if !all.known {
-        return Target {
-            known: false,
-            field: all.field,
-            next: State(0),
-            sent: [Message(0); tables::SENT],
-            count: 0,
-        };
-    }
-    let sent = all.sent;
-    Target {
-        known: true,
-        field: 0,
-        next: next,
-        sent: sent,
-        count: all.count,
-    }
+    let sent = sent_of(line, t)?;
+    Ok(Target { next, sent })
 }

@@ -1,20 +1,41 @@
 -- `cells::cell_line` meets its contract.
-use Rattle.text.specs.Parts.{split}
-use Rattle.cells.proofs.shapes.Shapes.{stall-shape, go-shape}
-use Rattle.cells.proofs.Judging.{misshapen, judged-told}
+use Prim.Native.Nat.{ℕ}
+use mathlib.Core.Path.{◌≡◌}
+use borrow.Author.Rules.{rules}
+use Rattle.std.proofs.lemmas.Result.{err_from_is_err_and, MatchResult-weaker}
+use Rattle.papers.specs.declared.refused.Field.{Field}
+use Rattle.papers.specs.declared.refused.Refused.{Refused}
+use Rattle.papers.specs.refused.Refused.{told_refusal}
+use Rattle.papers.specs.Checks.{field_refusal}
+use Rattle.cells.proofs.Mapped.{err-mapped, ok-mapped}
+use Rattle.cells.proofs.shapes.Shapes.{wrong-shape, right-shape}
+use Rattle.cells.proofs.Judging.{other_shape, unknown_name, told-judged}
 use Rattle.cells.proofs.cell_line.Goals as goal
 
-pub stall_of-at-requires : goal.stall_of-at-requires
-stall_of-at-requires c = (c.requires.0, stall-shape (split 9 c.args.line.now) c.in-Stall.whose c.in-Stall.ensures, c.requires.2, c.requires.3, c.requires.4)
+-- What a closure tells of a field.
+abbrev Tells : ℕ → ℕ → Field → Refused → Type 0
+Tells number nth x r = told_refusal r ≡ field_refusal number nth x.0
 
-pub go_of-at-requires : goal.go_of-at-requires
-go_of-at-requires c = (c.requires.0, go-shape (split 9 c.args.line.now) c.in-Go.whose c.in-Go.ensures, c.requires.2, c.requires.3, c.requires.4)
+pub returns-in_err-shape : goal.returns-in_err-shape
+returns-in_err-shape c =
+    let h =
+    err-mapped (Tells 4 c.args.nth) c.shape_of.result _
+    (MatchResult-weaker c.shape_of.result c.in_err-shape.ensures.cases (λ x p. p) (λ x p. search rules)) in
+    let p = err_from_is_err_and c.from_residual.result c.from_residual.ensures.1 in
+    rw (p.1, p.2) (other_shape _ _ _ c.requires.0 h.0 (wrong-shape _ h.0 (rw h.1 at c.shape_of.ensures)) _ h.2)
 
-pub returns-in-Wrong : goal.returns-in-Wrong
-returns-in-Wrong c = misshapen c.args.nth c.args.line.now c.args.messages c.args.message_count c.args.events c.args.event_count c.args.states c.args.state_count c.args.cells c.args.count c.requires.1 c.refused.result c.in-Wrong.field c.in-Wrong.ensures c.refused.ensures
+pub returns-in_err-at : goal.returns-in_err-at
+returns-in_err-at c =
+    let s = ok-mapped (Tells 4 c.args.nth) c.shape_of.result _ c.in_ok-shape.ensures.cases in
+    let h =
+    err-mapped (Tells 7 c.args.nth) c.reading_of.result _
+    (MatchResult-weaker c.reading_of.result c.in_err-at.ensures.cases (λ x p. p) (λ x p. search rules)) in
+    let p = err_from_is_err_and c.from_residual-in_err-at.result c.from_residual-in_err-at.ensures.1 in
+    rw (p.1, p.2)
+    (unknown_name _ _ _ c.requires.0 (right-shape _ _ (rw s at c.shape_of.ensures)).0 h.0 (rw h.1 at c.reading_of.ensures) _ h.2)
 
-pub returns-in-Stall : goal.returns-in-Stall
-returns-in-Stall c = judged-told c.args.nth c.args.line.now c.args.messages c.args.message_count c.args.events c.args.event_count c.args.states c.args.state_count c.args.cells c.args.count c.requires.1 c.stall_of-at.result c.stall_of-at.ensures (stall-shape (split 9 c.args.line.now) c.in-Stall.whose c.in-Stall.ensures).shape c.judged.result c.judged.ensures
-
-pub returns-in-Go : goal.returns-in-Go
-returns-in-Go c = judged-told c.args.nth c.args.line.now c.args.messages c.args.message_count c.args.events c.args.event_count c.args.states c.args.state_count c.args.cells c.args.count c.requires.1 c.go_of-at.result c.go_of-at.ensures (go-shape (split 9 c.args.line.now) c.in-Go.whose c.in-Go.ensures).shape c.judged-in-Go.result c.judged-in-Go.ensures
+pub returns : goal.returns
+returns c =
+    let s = ok-mapped (Tells 4 c.args.nth) c.shape_of.result _ c.in_ok-shape.ensures.cases in
+    let h = ok-mapped (Tells 7 c.args.nth) c.reading_of.result _ c.in_ok-at.ensures.cases in
+    told-judged _ _ _ c.requires.0 (right-shape _ _ (rw s at c.shape_of.ensures)).0 _ (rw h at c.reading_of.ensures) _ c.judged.ensures

@@ -1,71 +1,34 @@
 -- Where a cell goes to, from what the look-ups answer.
-use Prim.Native.Nat.{ℕ}
-use mathlib.Core.Path.{◌≡◌, sym, ap, ◌∙◌}
-use mathlib.Core.Bool.{Bool, true, false, ◌&&◌, and-false}
-use mathlib.Core.List.{List}
-use lib.ListN.{take}
-use Rattle.text.specs.Parts.{first_index}
-use Rattle.tables.specs.declared.Controller.{Controller}
-use Rattle.tables.specs.declared.MessageRow.{MessageRow}
-use Rattle.tables.specs.declared.StateRow.{StateRow}
-use Rattle.tables.specs.declared.names.FoundState.{FoundState}
-use Rattle.tables.specs.declared.names.FoundState.TheVariants.{At as StateAt, Nothing as NoState}
-use Rattle.tables.specs.names.Names.{state_named_lem, is_state_name, found_state}
-use Rattle.text.specs.Line.{Line, field}
-use Rattle.lines.specs.Line.{sent_fields, sent_of_lem}
-use Rattle.lines.specs.Checks.{all_messages, sent_names}
-use Rattle.lines.proofs.Both.{not-both}
+use mathlib.Core.Path.{◌≡◌}
+use mathlib.Core.Bool.{true, false}
+use Rattle.std.specs.Prelude.{Ok, Err}
 use Rattle.rules.specs.declared.State.{State}
-use Rattle.cells.proofs.Unknown.{one_known, one-unknown, all-sent}
-use Rattle.cells.proofs.places.Named.{state-known, state-unknown}
+use Rattle.papers.specs.declared.refused.Field.{Field}
+use Rattle.papers.specs.Fields.{first_bad_field}
+use Rattle.tables.specs.declared.Controller.{Controller}
+use Rattle.tables.specs.declared.Tables.{Tables}
+use Rattle.tables.specs.names.Names.{state_at, is_state_name}
+use Rattle.text.specs.Line.{Line, field}
+use Rattle.lines.specs.Line.{sent_fields}
+use Rattle.lines.specs.Checks.{all_messages, sent_names}
 use Rattle.cells.specs.declared.targets.Sent.{Sent}
-use Rattle.cells.specs.declared.targets.Target.{Target}
-use Rattle.cells.specs.targets.Target.{SentTold, no_target, TargetTold}
+use Rattle.cells.specs.targets.Target.{sent_record, SentTold, TargetTold}
+use Rattle.cells.proofs.Names.{ok-known, err-unknown}
 
-module _ (f : Line) (whose : Controller) (messages : List MessageRow) (message-count : ℕ) (states : List StateRow) (state-count : ℕ)
-    (r : FoundState) (e : r ≡ found_state (first_index (state_named_lem whose (field f 5)) (take state-count states)) state-count) where
-  pub no-next : (v : Target) → v ≡ no_target 6 → r ≡ NoState → TargetTold f whose messages message-count states state-count v
-  no-next v z q =
-      let k : v.known ≡ false = ap (λ (x : Target). x.known) z in
-      record {
-        known = λ t am own. k ∙ sym (ap (λ (b : Bool). b && all_messages t (sent_fields f)) (state-unknown t states state-count own whose (field f 5) r e q));
-        next = λ t am own b. absurd (not-both v.known k b);
-        sent = λ t am b. absurd (not-both v.known k b);
-        count = λ b. absurd (not-both v.known k b);
-        first_bad = λ t am own.
-            ap (λ (x : Target). x.field) z
-            ∙ sym (one-unknown 6 (is_state_name t whose (field f 5)) (sent_names t 7 (sent_fields f)) (state-unknown t states state-count own whose (field f 5) r e q));
-        cleared = λ b. z ∙ ap no_target (sym (ap (λ (x : Target). x.field) z));
-      }
+module _ (f : Line) (whose : Controller) (t : Tables) where
+  pub no-next : is_state_name t whose (field f 5) ≡ false → TargetTold f whose t (Err (record { 0 = 6 }))
+  unfolding first_bad_field
+  no-next a = rw a
 
-  -- the next state is known, but not all that is sent
-  pub not-sent : (a : State) → r ≡ StateAt a → (s : Sent) (v : Target) → SentTold (sent_fields f) messages message-count s → s.known ≡ false → v ≡ no_target s.field → TargetTold f whose messages message-count states state-count v
-  not-sent a found s v told h z =
-      let k : v.known ≡ false = ap (λ (x : Target). x.known) z in
-      record {
-        known = λ t am own. k ∙ sym (ap (λ (b : Bool). is_state_name t whose (field f 5) && b) (sym (told.known t am) ∙ h) ∙ and-false (is_state_name t whose (field f 5)));
-        next = λ t am own b. absurd (not-both v.known k b);
-        sent = λ t am b. absurd (not-both v.known k b);
-        count = λ b. absurd (not-both v.known k b);
-        first_bad = λ t am own.
-            ap (λ (x : Target). x.field) z ∙ told.first_bad t am
-            ∙ sym (one_known 6 (is_state_name t whose (field f 5)) (sent_names t 7 (sent_fields f)) (state-known t states state-count own whose (field f 5) r a e found).0);
-        cleared = λ b. z ∙ ap no_target (sym (ap (λ (x : Target). x.field) z));
-      }
+  module _ (s : State) (a : (is_state_name t whose (field f 5) ≡ true) × (s ≡ record { 0 = state_at t whose (field f 5) })) where
+    -- the next state is known, but not all that is sent
+    pub not-sent : (k : Field) → SentTold (sent_fields f) t (Err k) → TargetTold f whose t (Err k)
+    unfolding first_bad_field
+    not-sent k e =
+        let u = err-unknown (sent_record t (sent_fields f)) (sent_names t 7 (sent_fields f)) (all_messages t (sent_fields f)) k e in
+        rw (a.0, u.0, u.1)
 
-  pub targeted : (s : Sent) (v : Target) → SentTold (sent_fields f) messages message-count s → s.known ≡ true → v.known ≡ true → v.field ≡ 0 → v.sent ≡ s.sent → v.count ≡ s.count
-      → r ≡ StateAt v.next → TargetTold f whose messages message-count states state-count v
-  unfolding sent_of_lem
-  targeted s v told h k z l n p =
-      record {
-        known = λ t am own.
-            k ∙ sym h ∙ told.known t am
-            ∙ sym (ap (λ (b : Bool). b && all_messages t (sent_fields f)) (state-known t states state-count own whose (field f 5) r v.next e p).0);
-        next = λ t am own b. (state-known t states state-count own whose (field f 5) r v.next e p).1;
-        sent = λ t am b. l ∙ told.sent t am h;
-        count = λ b. n ∙ told.count h;
-        first_bad = λ t am own.
-            z ∙ sym (one_known 6 (is_state_name t whose (field f 5)) (sent_names t 7 (sent_fields f)) (state-known t states state-count own whose (field f 5) r v.next e p).0
-            ∙ all-sent t 7 (sent_fields f) (sym (told.known t am) ∙ h));
-        cleared = λ b. absurd (not-both v.known b k);
-      }
+    pub targeted : (v : Sent) → SentTold (sent_fields f) t (Ok v) → TargetTold f whose t (Ok (record { next = s; sent = v }))
+    targeted v e =
+        let u = ok-known (sent_record t (sent_fields f)) (sent_names t 7 (sent_fields f)) (all_messages t (sent_fields f)) v e in
+        rw (a.0, u.0, a.1, u.1)

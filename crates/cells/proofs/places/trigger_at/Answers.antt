@@ -1,16 +1,17 @@
 -- `cells::places::trigger_at` meets its contract.
-use mathlib.Core.Path.{sym, subst}
-use Rattle.tables.specs.declared.Controller.{Controller}
-use Rattle.cells.specs.declared.places.FoundTrigger.TheVariants.{Nothing}
-use Rattle.cells.specs.places.Place.{TriggerTold}
-use Rattle.cells.proofs.places.Named.{on-message, on-dir, on-event}
+use mathlib.Core.Path.{◌∙◌}
+use Rattle.cells.proofs.Named.{message-known, message-unknown, same-event}
+use Rattle.cells.proofs.places.Placed.{on-message, on-dir, on-event}
 use Rattle.cells.proofs.places.trigger_at.Goals as goal
 
-pub returns-in-At : goal.returns-in-At
-returns-in-At c = on-message c.args.part.now c.args.messages c.args.message_count c.args.events c.args.event_count c.message_named-found.result c.message_named-found.ensures c.args.whose c.in-At.m c.in-At.is
+pub returns-in-Some : goal.returns-in-Some
+returns-in-Some c = on-message _ _ _ _ (message-known _ _ _ c.messages.ensures.rows c.messages.ensures.many _ c.in-Some.ensures)
 
 pub returns-in-Cache : goal.returns-in-Cache
-returns-in-Cache c = subst (λ (w : Controller). TriggerTold c.args.part.now w c.args.messages c.args.message_count c.args.events c.args.event_count c.event_at.result) (sym c.in-Cache.is) (on-event c.args.part.now c.args.messages c.args.message_count c.args.events c.args.event_count c.message_named-found.result c.message_named-found.ensures c.in_default.is c.event_at.result c.event_at.ensures)
+returns-in-Cache c =
+    rw c.in-Cache.is
+    (on-event _ _ (message-unknown _ _ _ c.messages.ensures.rows c.messages.ensures.many c.in_default.ensures) _
+    (c.event_named.ensures ∙ same-event _ _ _ c.events.ensures.rows c.events.ensures.many) _ c.map.ensures.cases)
 
 pub returns-in-Dir : goal.returns-in-Dir
-returns-in-Dir c = subst (λ (w : Controller). TriggerTold c.args.part.now w c.args.messages c.args.message_count c.args.events c.args.event_count Nothing) (sym c.in-Dir.is) (on-dir c.args.part.now c.args.messages c.args.message_count c.args.events c.args.event_count c.message_named-found.result c.message_named-found.ensures c.in_default.is)
+returns-in-Dir c = rw c.in-Dir.is (on-dir _ _ (message-unknown _ _ _ c.messages.ensures.rows c.messages.ensures.many c.in_default.ensures))

@@ -1,20 +1,19 @@
 -- `cells::readings::stall_of` meets its contract.
-use borrow.Author.Tests.{not-true, not-false}
+use native.Mathlib.Omega.{arith}
 use Rattle.text.specs.Parts.{split}
+use Rattle.std.proofs.lemmas.Result.{err_from_is_err_and}
 use Rattle.cells.proofs.shapes.Shapes.{count-short}
 use Rattle.cells.proofs.readings.Whole.{not-placed}
 use Rattle.cells.proofs.readings.Stalling.{stalling}
-use native.Mathlib.Omega.{arith}
 use Rattle.cells.proofs.readings.stall_of.Goals as goal
 
-pub place_of-at-requires : goal.place_of-at-requires
-place_of-at-requires c = (c.requires.0, omega (arith, c.requires.1.long, count-short c.args.line.now c.args.f c.requires.0 (omega (arith, c.requires.1.long))), c.requires.2, c.requires.3, c.requires.4)
+pub place_of-requires : goal.place_of-requires
+place_of-requires c = (omega (arith, c.requires.0.long, count-short _ _ c.args.line.now.are (omega (arith, c.requires.0.long))), c.requires.1, c.requires.2, c.requires.3)
 
-pub returns-then-not-at : goal.returns-then-not-at
-returns-then-not-at c = not-placed (split 9 c.args.line.now) c.args.whose c.args.messages c.args.message_count c.args.events c.args.event_count c.args.states c.args.state_count c.place_of-at.result c.place_of-at.ensures c.unread.result c.requires.1.is (not-true c.place_of-at.result.known c.if-not-at.true) c.unread.ensures
-
-pub in_stable-requires : goal.in_stable-requires
-in_stable-requires c = (c.place_of-at.ensures.below (not-false c.place_of-at.result.known c.if-not-at.false), c.requires.4)
+pub returns-in_err-at : goal.returns-in_err-at
+returns-in_err-at c =
+    let p = err_from_is_err_and c.from_residual.result c.from_residual.ensures.1 in
+    rw (p.1, p.2) (not-placed (split 9 c.args.line.now.bytes.now) c.args.t.now _ (rw c.requires.0.is at c.in_err-at.ensures))
 
 pub returns : goal.returns
-returns c = stalling (split 9 c.args.line.now) c.args.whose c.args.messages c.args.message_count c.args.events c.args.event_count c.args.states c.args.state_count c.place_of-at.result c.place_of-at.ensures c.in_stable.result c.requires.1 (not-false c.place_of-at.result.known c.if-not-at.false) c.in_stable.ensures
+returns c = stalling (split 9 c.args.line.now.bytes.now) c.args.whose c.args.t.now _ c.in_ok-at.ensures c.requires.0 _ c.in_stable.ensures

@@ -1,19 +1,23 @@
 -- `cells::targets::target_of` meets its contract.
-use Prim.Native.Nat.{ℕ}
-use mathlib.Core.Path.{refl, ap, ◌∙◌}
-use mathlib.Core.List.{List}
-use lib.ListN.{take}
-use Rattle.text.specs.Parts.{split, first_index}
-use Rattle.tables.specs.names.Names.{state_named_lem, found_state}
+use Rattle.text.specs.Parts.{split}
+use Rattle.std.proofs.lemmas.Result.{err_from_is_err_and}
+use Rattle.cells.proofs.Named.{state-known, state-unknown}
 use Rattle.cells.proofs.targets.Targeted.{no-next, not-sent, targeted}
-use borrow.Author.Tests.{not-true, not-false}
 use Rattle.cells.proofs.targets.target_of.Goals as goal
 
 pub returns-in_default : goal.returns-in_default
-returns-in_default c = no-next (split 9 c.args.line.now) c.args.whose c.args.messages c.args.message_count c.args.states c.args.state_count c.state_named-found.result (c.state_named-found.ensures ∙ ap (λ (l : List ℕ). found_state (first_index (state_named_lem c.args.whose l) (take c.args.state_count c.args.states)) c.args.state_count) c.field_at-to.ensures) _ refl c.in_default.is
+returns-in_default c =
+    no-next (split 9 c.args.line.now.bytes.now) c.args.whose c.args.t.now
+    (state-unknown _ _ _ _ c.states.ensures.rows c.states.ensures.many (rw c.field.ensures at c.in_default.ensures))
 
-pub returns-then-not-all : goal.returns-then-not-all
-returns-then-not-all c = not-sent (split 9 c.args.line.now) c.args.whose c.args.messages c.args.message_count c.args.states c.args.state_count c.state_named-found.result (c.state_named-found.ensures ∙ ap (λ (l : List ℕ). found_state (first_index (state_named_lem c.args.whose l) (take c.args.state_count c.args.states)) c.args.state_count) c.field_at-to.ensures) c.in-At.next c.in-At.is c.sent_of-all.result _ c.sent_of-all.ensures (not-true c.sent_of-all.result.known c.if-not-all.true) refl
+pub returns-in_err-sent : goal.returns-in_err-sent
+returns-in_err-sent c =
+    let p = err_from_is_err_and c.from_residual.result c.from_residual.ensures.1 in
+    rw (p.1, p.2)
+    (not-sent (split 9 c.args.line.now.bytes.now) c.args.whose c.args.t.now _
+    (state-known _ _ _ _ c.states.ensures.rows c.states.ensures.many _ (rw c.field.ensures at c.in-Some.ensures)) _ c.in_err-sent.ensures)
 
 pub returns : goal.returns
-returns c = targeted (split 9 c.args.line.now) c.args.whose c.args.messages c.args.message_count c.args.states c.args.state_count c.state_named-found.result (c.state_named-found.ensures ∙ ap (λ (l : List ℕ). found_state (first_index (state_named_lem c.args.whose l) (take c.args.state_count c.args.states)) c.args.state_count) c.field_at-to.ensures) c.sent_of-all.result _ c.sent_of-all.ensures (not-false c.sent_of-all.result.known c.if-not-all.false) refl refl refl refl c.in-At.is
+returns c =
+    targeted (split 9 c.args.line.now.bytes.now) c.args.whose c.args.t.now _
+    (state-known _ _ _ _ c.states.ensures.rows c.states.ensures.many _ (rw c.field.ensures at c.in-Some.ensures)) _ c.in_ok-sent.ensures
