@@ -1,6 +1,7 @@
 -- `cells::judged` meets its contract.
-use mathlib.Core.Path.{sym, ◌∙◌}
+use mathlib.Core.Path.{sym, ap, ◌∙◌}
 use native.Mathlib.Omega.{arith}
+use Rattle.tables.specs.Clash.{any_clash_lem}
 use Rattle.cells.proofs.Judging.{too_many, stuck_there, clashing, accepted}
 use Rattle.cells.proofs.judged.Goals as goal
 
@@ -12,7 +13,10 @@ returns-then-at c = stuck_there _ _ _ _ (omega arith) c.if-at.true c.whole-then-
 
 pub returns-then-any_clash : goal.returns-then-any_clash
 returns-then-any_clash c =
-    clashing _ _ _ _ (omega arith) c.if-at.false (sym c.any_clash.ensures ∙ c.if-any_clash.true) c.whole-then-any_clash.ensures
+    clashing _ _ _ _ (omega arith) c.if-at.false
+    (ap (any_clash_lem c.args.at.cell) (sym c.cells.ensures.rows) ∙ sym c.any_clash.ensures ∙ c.if-any_clash.true) c.whole-then-any_clash.ensures
 
 pub returns : goal.returns
-returns c = accepted _ _ _ (omega arith) c.if-at.false (sym c.any_clash.ensures ∙ c.if-any_clash.false)
+returns c =
+    accepted _ _ _ (omega arith) c.if-at.false
+    (ap (any_clash_lem c.args.at.cell) (sym c.cells.ensures.rows) ∙ sym c.any_clash.ensures ∙ c.if-any_clash.false)
