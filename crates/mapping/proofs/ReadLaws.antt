@@ -1,11 +1,11 @@
 -- Laws of the reading of a mapping: the loop over its lines.
-use mathlib.Core.Path.{◌≡◌, refl, sym, ap, ap₂, ◌∙◌}
+use mathlib.Core.Path.{◌≡◌, refl, sym, ap, ap₂, ◌∙◌, subst}
 use mathlib.Core.Bool.{Bool, true, cond}
 use mathlib.Core.List.{List, [], ◌∷◌, ◌++◌, map, append_assoc, map-append}
 use Prim.Native.Nat.{ℕ, zero, suc, ◌+◌, ◌-◌, ◌≤◌, ◌<◌}
 use native.Mathlib.Omega.{arith}
-use lib.ListN.{length, take, drop, get_or, set, replicate, length-append, length-map, drop_of_length-le}
-use lib.Seq.{drop-cons, drop-drop, set_at, get_or-take, length-take-le}
+use lib.ListN.{length, take, drop, get_or, set, replicate, length-append, length-map, drop_of_length-le, length-drop}
+use lib.Seq.{drop-cons, drop-drop, set_at, take_all, get_or-drop}
 use borrow.Author.Tests.{eq-eqb, ne_eqb}
 use Rattle.rules.specs.declared.Network.{Network}
 use Rattle.rules.specs.Numbers.{as_network}
@@ -13,19 +13,24 @@ use Rattle.text.specs.Parts.{part, place, split, lines}
 use Rattle.text.specs.Words.{mapping_header2}
 use Rattle.text.proofs.Lines.{lines_end}
 use Rattle.papers.specs.declared.Refusal.{Refusal}
+use Rattle.std.specs.Prelude.{Ok, Err}
+use Rattle.papers.specs.declared.refused.Field.{Field}
+use Rattle.papers.specs.declared.refused.Refused.{Refused}
+use Rattle.papers.specs.refused.Refused.{told_refusal}
 use Rattle.papers.specs.Checks.{refusal, field_refusal, none}
 use Rattle.papers.specs.Opening.{opening_of}
 use Rattle.papers.specs.Lined.{Lined}
+use Rattle.papers.proofs.Refusals.{told-some}
 use Rattle.papers.proofs.OpeningLaws.{opened}
 use Rattle.papers.proofs.Walk.{NextLine, walk-next}
 use Rattle.tables.specs.declared.MessageRow.{MessageRow}
-use Rattle.mapping.specs.declared.Mapped.{Mapped}
+use Rattle.tables.specs.Tables.{no_message_row}
+use Rattle.mapping.specs.Mapped.{Mapped}
 use Rattle.text.specs.Line.{field}
-use Rattle.mapping.specs.declared.lines.MapShape.TheVariants.{Wrong as WrongMap}
 use Rattle.mapping.specs.lines.Line.{map_shaped, map_shape, map_refusal}
 use Rattle.mapping.specs.networks.Networks.{network_of_lem}
 use Rattle.mapping.specs.Headers.{Header, header1, header2, header_of}
-use Rattle.mapping.specs.Reading.{maps_refused, maps_unless, read_maps, read_under, read_mapping_lem}
+use Rattle.mapping.specs.Reading.{mapped_of, maps_refused, maps_unless, read_maps, read_under, read_mapping_lem}
 use Rattle.mapping.proofs.lines.LineLaws.{wrong-shaped, line-shape, line-full, line-many, line-next}
 
 -- ---- one step of the reading
@@ -54,14 +59,14 @@ module _ (most k : ℕ) (l : List ℕ) (ls : List (List ℕ)) (next : List Messa
 -- ---- the loop
 
 -- The first i messages have their lines, and what is left of the text starts at `at`.
-pub record Going (most : ℕ) (text : List ℕ) (from : ℕ) (messages : List MessageRow) (count at i : ℕ) (networks : List Network) : Type 0 where
+pub record Going (most : ℕ) (text : List ℕ) (messages : List MessageRow) (at i : ℕ) (networks : List Network) : Type 0 where
   pub left : Lined text at
-  pub few : i ≤ count
+  pub few : i ≤ length messages
   pub room : i ≤ most
   pub ns : List ℕ
   pub long : length ns ≡ i
   pub kept : networks ≡ map as_network (ns ++ replicate (64 - i) 0)
-  pub goal : read_maps most (i + 2) (lines (drop at text)) (drop i (take count messages)) ns ≡ read_maps most 2 (lines (drop from text)) (take count messages) []
+  pub goal : read_maps most (i + 2) (lines (drop at text)) (drop i messages) ns ≡ read_maps most 2 (lines text) messages []
 
 zeros : (n : ℕ) → replicate n (as_network 0) ≡ map as_network (replicate n 0)
 zeros zero = refl
@@ -78,31 +83,26 @@ stored ns i n e h =
     ∙ set_at (map as_network ns) (as_network 0) (map as_network zs) (as_network n) i (length-map ns as_network ∙ e)
     ∙ sym (map-append as_network ns (n ∷ zs)) ∙ ap (map as_network) (sym (append_assoc ns (n ∷ []) zs))
 
-module _ (d : MessageRow) (most : ℕ) (text : List ℕ) (from : ℕ) (messages : List MessageRow) (count : ℕ) where
-  pub going-first : Lined text from → Going most text from messages count from 0 (replicate 64 (as_network 0))
+module _ (most : ℕ) (text : List ℕ) (messages : List MessageRow) where
+  pub going-first : Lined text 0 → Going most text messages 0 0 (replicate 64 (as_network 0))
   going-first h = record { left = h; few = omega arith; room = omega arith; ns = []; long = refl; kept = zeros 64; goal = refl }
 
-  module _ (at i : ℕ) (networks : List Network) (g : Going most text from messages count at i networks) where
+  module _ (at i : ℕ) (networks : List Network) (g : Going most text messages at i networks) where
     -- no line is left
-    pub going_done : length text ≤ at → count ≤ i → length messages ≡ 64 → count ≤ 64
-        → record { refusal = none; networks = networks } ≡ read_maps most 2 (lines (drop from text)) (take count messages) []
+    pub going_done : length text ≤ at → length messages ≤ i → mapped_of (Ok networks) ≡ read_maps most 2 (lines text) messages []
     unfolding read_maps
-    going_done h k m o =
-        let ms = take count messages in
-        let w : length ms ≤ i = omega (arith, length-take-le count messages (omega arith)) in
-        ap (λ (l : List Network). record { refusal = none; networks = l })
-        (g.kept ∙ ap (λ (j : ℕ). map as_network (g.ns ++ replicate (64 - j) 0)) (sym g.long))
-        ∙ sym (ap₂ (λ (ls : List (List ℕ)) (next : List MessageRow). read_maps most (i + 2) ls next g.ns) (lines_end text at h) (drop_of_length-le ms {i = i} w))
+    going_done h k =
+        ap (λ (l : List Network). mapped_of (Ok l)) (g.kept ∙ ap (λ (j : ℕ). map as_network (g.ns ++ replicate (64 - j) 0)) (sym g.long))
+        ∙ sym (ap₂ (λ (ls : List (List ℕ)) (next : List MessageRow). read_maps most (i + 2) ls next g.ns) (lines_end text at h) (drop_of_length-le messages {i = i} k))
         ∙ g.goal
 
     -- a message has no line
-    pub going-short : length text ≤ at → i < count → length messages ≡ 64 → count ≤ 64
-        → maps_refused (refusal 14 (i + 2)) ≡ read_maps most 2 (lines (drop from text)) (take count messages) []
+    pub going-short : (r : Refused) → told_refusal r ≡ refusal 14 (i + 2) → length text ≤ at → i < length messages
+        → mapped_of (Err r) ≡ read_maps most 2 (lines text) messages []
     unfolding read_maps
-    going-short h k m o =
-        let ms = take count messages in
-        let w : i < length ms = omega (arith, length-take-le count messages (omega arith)) in
-        sym (ap₂ (λ (ls : List (List ℕ)) (next : List MessageRow). read_maps most (i + 2) ls next g.ns) (lines_end text at h) (drop-cons ms i d w))
+    going-short r q h k =
+        ap maps_refused q
+        ∙ sym (ap₂ (λ (ls : List (List ℕ)) (next : List MessageRow). read_maps most (i + 2) ls next g.ns) (lines_end text at h) (drop-cons messages i (get_or messages i no_message_row) k))
         ∙ g.goal
 
     module _ (h : at < length text) where
@@ -115,79 +115,68 @@ module _ (d : MessageRow) (most : ℕ) (text : List ℕ) (from : ℕ) (messages 
       pub line-within : (at ≤ place 10 text at (length text)) × (place 10 text at (length text) < length text)
       line-within = (next_line_lem.from, next_line_lem.ends)
 
-      -- the next line is refused
-      refused-by : (why : Refusal) → (why.number ≡ 0 → ⊥)
-          → map_refusal most i (drop i (take count messages)) (i + 2) (split 9 (part text at (place 10 text at (length text)))) ≡ why
-          → maps_refused why ≡ read_maps most 2 (lines (drop from text)) (take count messages) []
-      refused-by why z q =
-          sym (ap (λ (ls : List (List ℕ)). read_maps most (i + 2) ls (drop i (take count messages)) g.ns) next_line_lem.first
-          ∙ maps-refused most (i + 2) (part text at e) (lines (drop (e + 1) text)) (drop i (take count messages)) g.ns why z
-          (ap (λ (j : ℕ). map_refusal most j (drop i (take count messages)) (i + 2) (split 9 (part text at e))) g.long ∙ q))
-          ∙ g.goal
+      module _ (line : List ℕ) (is : line ≡ part text at (place 10 text at (length text))) where
+        first : lines (drop at text) ≡ line ∷ lines (drop (e + 1) text)
+        first = next_line_lem.first ∙ ap (λ (l : List ℕ). l ∷ lines (drop (e + 1) text)) (sym is)
 
-      pub going-shape : (n : ℕ) → WrongMap n ≡ map_shape (split 9 (part text at (place 10 text at (length text))))
-          → maps_refused (field_refusal 4 (i + 2) n) ≡ read_maps most 2 (lines (drop from text)) (take count messages) []
-      going-shape n q =
-          let w = wrong-shaped (split 9 (part text at e)) n q in
-          refused-by (field_refusal 4 (i + 2) n) (λ z. omega arith)
-          (line-shape most i (i + 2) (split 9 (part text at e)) (drop i (take count messages)) w.0 ∙ ap (field_refusal 4 (i + 2)) w.1)
+        -- the next line is refused
+        refused-by : (r : Refused) → map_refusal most i (drop i messages) (i + 2) (split 9 line) ≡ told_refusal r → mapped_of (Err r) ≡ read_maps most 2 (lines text) messages []
+        refused-by r q =
+            sym (ap (λ (ls : List (List ℕ)). read_maps most (i + 2) ls (drop i messages) g.ns) first
+            ∙ maps-refused most (i + 2) line (lines (drop (e + 1) text)) (drop i messages) g.ns (told_refusal r) (told-some r)
+            (ap (λ (j : ℕ). map_refusal most j (drop i messages) (i + 2) (split 9 line)) g.long ∙ q))
+            ∙ g.goal
 
-      module _ (s : map_shaped (split 9 (part text at (place 10 text at (length text)))) ≡ true) (o : count ≤ 64) (m : length messages ≡ 64) where
-        long-messages : length (take count messages) ≡ count
-        long-messages = length-take-le count messages (omega arith)
+        pub going-shape : (x : Field) → map_shape (split 9 line) ≡ Err x → (r : Refused) → told_refusal r ≡ field_refusal 4 (i + 2) x.0
+            → mapped_of (Err r) ≡ read_maps most 2 (lines text) messages []
+        going-shape x q r t =
+            let w = wrong-shaped (split 9 line) x q in
+            refused-by r (line-shape most i (i + 2) (split 9 line) (drop i messages) w.0 ∙ ap (field_refusal 4 (i + 2)) w.1 ∙ sym t)
 
-        pub going-full : i ≡ most → maps_refused (refusal 9 (i + 2)) ≡ read_maps most 2 (lines (drop from text)) (take count messages) []
-        going-full q = refused-by (refusal 9 (i + 2)) (λ z. omega arith) (line-full most i (i + 2) (split 9 (part text at e)) s (drop i (take count messages)) (omega (arith, q)))
+        module _ (s : map_shaped (split 9 line) ≡ true) where
+          pub going-full : i ≡ most → (r : Refused) → told_refusal r ≡ refusal 9 (i + 2) → mapped_of (Err r) ≡ read_maps most 2 (lines text) messages []
+          going-full q r t = refused-by r (line-full most i (i + 2) (split 9 line) s (drop i messages) (omega (arith, q)) ∙ sym t)
 
-        pub going-many : i < most → i ≡ count → maps_refused (refusal 14 (i + 2)) ≡ read_maps most 2 (lines (drop from text)) (take count messages) []
-        going-many room q =
-            refused-by (refusal 14 (i + 2)) (λ z. omega arith)
-            (ap (λ (next : List MessageRow). map_refusal most i next (i + 2) (split 9 (part text at e)))
-            (drop_of_length-le (take count messages) {i = i} (omega (arith, long-messages)))
-            ∙ line-many most i (i + 2) (split 9 (part text at e)) s room)
+          pub going-many : i < most → length messages ≤ i → (r : Refused) → told_refusal r ≡ refusal 14 (i + 2) → mapped_of (Err r) ≡ read_maps most 2 (lines text) messages []
+          going-many room q r t =
+              refused-by r
+              (ap (λ (next : List MessageRow). map_refusal most i next (i + 2) (split 9 line)) (drop_of_length-le messages {i = i} q)
+              ∙ line-many most i (i + 2) (split 9 line) s room ∙ sym t)
 
-        module _ (k : i < count) where
-          turn : drop i (take count messages) ≡ get_or messages i d ∷ drop (suc i) (take count messages)
-          turn =
-              drop-cons (take count messages) i d (omega (arith, long-messages))
-              ∙ ap (λ (r : MessageRow). r ∷ drop (suc i) (take count messages)) (get_or-take count messages i d k)
+          module _ (k : i < length messages) (m : MessageRow) (turn : m ≡ get_or messages i m) where
+            checks : map_refusal most i (drop i messages) (i + 2) (split 9 line) ≡ map_refusal most i (m ∷ []) (i + 2) (split 9 line)
+            checks =
+                ap (λ (next : List MessageRow). map_refusal most i next (i + 2) (split 9 line))
+                (drop-cons messages i m k ∙ ap (λ (r : MessageRow). r ∷ drop (suc i) messages) (sym turn))
+                ∙ line-next most i (i + 2) (split 9 line) m (drop (suc i) messages)
 
-          checks : map_refusal most i (drop i (take count messages)) (i + 2) (split 9 (part text at (place 10 text at (length text))))
-              ≡ map_refusal most i (get_or messages i d ∷ []) (i + 2) (split 9 (part text at (place 10 text at (length text))))
-          checks =
-              ap (λ (next : List MessageRow). map_refusal most i next (i + 2) (split 9 (part text at e))) turn
-              ∙ line-next most i (i + 2) (split 9 (part text at e)) (get_or messages i d) (drop (suc i) (take count messages))
+            pub going-refused : (r : Refused) → told_refusal r ≡ map_refusal most i (m ∷ []) (i + 2) (split 9 line) → mapped_of (Err r) ≡ read_maps most 2 (lines text) messages []
+            going-refused r q = refused-by r (checks ∙ sym q)
 
-          pub going-refused : (why : Refusal) → why ≡ map_refusal most i (get_or messages i d ∷ []) (i + 2) (split 9 (part text at (place 10 text at (length text)))) → (why.number ≡ 0 → ⊥)
-              → maps_refused why ≡ read_maps most 2 (lines (drop from text)) (take count messages) []
-          going-refused why q z = refused-by why z (checks ∙ sym q)
-
-          pub going_more : i < most → (why : Refusal) → why ≡ map_refusal most i (get_or messages i d ∷ []) (i + 2) (split 9 (part text at (place 10 text at (length text)))) → why.number ≡ 0
-              → (network : Network) → network ≡ as_network (network_of_lem most (field (split 9 (part text at (place 10 text at (length text)))) 2))
-              → Going most text from messages count (place 10 text at (length text) + 1) (i + 1) (set networks i network)
-          going_more room why q z network v =
-              let n = network_of_lem most (field (split 9 (part text at e)) 2) in
-              let l = part text at e in
-              let ms = take count messages in
-              let nothing : (map_refusal most (length g.ns) (drop i ms) (i + 2) (split 9 l)).number ≡ 0 =
-              ap (λ (r : Refusal). r.number) (ap (λ (j : ℕ). map_refusal most j (drop i ms) (i + 2) (split 9 l)) g.long ∙ checks ∙ sym q) ∙ z in
-              let on : suc (i + 2) ≡ i + 1 + 2 = omega arith in
-              let step : drop 1 (drop i ms) ≡ drop (i + 1) ms = drop-drop 1 i ms in
-              record {
-                left = next_line_lem.more;
-                few = omega arith;
-                room = omega arith;
-                ns = g.ns ++ (n ∷ []);
-                long = length-append g.ns (n ∷ []) ∙ ap (λ (j : ℕ). j + 1) g.long;
-                kept = ap₂ (λ (xs : List Network) (x : Network). set xs i x) g.kept v ∙ stored g.ns i n g.long (omega arith);
-                goal =
-                    sym
-                    (ap (λ (ls : List (List ℕ)). read_maps most (i + 2) ls (drop i ms) g.ns) next_line_lem.first
-                    ∙ maps-more most (i + 2) l (lines (drop (e + 1) text)) (drop i ms) g.ns nothing
-                    ∙ ap (λ (j : ℕ). read_maps most j (lines (drop (e + 1) text)) (drop 1 (drop i ms)) (g.ns ++ (network_of_lem most (field (split 9 l) 2) ∷ []))) on
-                    ∙ ap (λ (next : List MessageRow). read_maps most (i + 1 + 2) (lines (drop (e + 1) text)) next (g.ns ++ (n ∷ []))) step)
-                    ∙ g.goal;
-              }
+            pub going_more : i < most → most ≤ 64 → none ≡ map_refusal most i (m ∷ []) (i + 2) (split 9 line)
+                → (network : Network) → network ≡ as_network (network_of_lem most (field (split 9 line) 2))
+                → Going most text messages (place 10 text at (length text) + 1) (i + 1) (set networks i network)
+            going_more room top q network v =
+                let n = network_of_lem most (field (split 9 line) 2) in
+                let nothing : (map_refusal most (length g.ns) (drop i messages) (i + 2) (split 9 line)).number ≡ 0 =
+                ap (λ (r : Refusal). r.number) (ap (λ (j : ℕ). map_refusal most j (drop i messages) (i + 2) (split 9 line)) g.long ∙ checks ∙ sym q) in
+                let on : suc (i + 2) ≡ i + 1 + 2 = omega arith in
+                let step : drop 1 (drop i messages) ≡ drop (i + 1) messages = drop-drop 1 i messages in
+                record {
+                  left = next_line_lem.more;
+                  few = omega arith;
+                  room = omega arith;
+                  ns = g.ns ++ (n ∷ []);
+                  long = length-append g.ns (n ∷ []) ∙ ap (λ (j : ℕ). j + 1) g.long;
+                  kept = ap₂ (λ (xs : List Network) (x : Network). set xs i x) g.kept v ∙ stored g.ns i n g.long (omega arith);
+                  goal =
+                      sym
+                      (ap (λ (ls : List (List ℕ)). read_maps most (i + 2) ls (drop i messages) g.ns) first
+                      ∙ maps-more most (i + 2) line (lines (drop (e + 1) text)) (drop i messages) g.ns nothing
+                      ∙ ap (λ (j : ℕ). read_maps most j (lines (drop (e + 1) text)) (drop 1 (drop i messages)) (g.ns ++ (network_of_lem most (field (split 9 line) 2) ∷ []))) on
+                      ∙ ap (λ (next : List MessageRow). read_maps most (i + 1 + 2) (lines (drop (e + 1) text)) next (g.ns ++ (n ∷ []))) step)
+                      ∙ g.goal;
+                }
 
 -- ---- the whole text
 
@@ -218,3 +207,17 @@ is-second text h = ap (λ (t : Bool). cond t header2 header1) (eq-eqb (opening_o
 pub is-first : (text : List ℕ) → ((opening_of mapping_header2 text).number ≡ 0 → ⊥) → header_of text ≡ header1
 unfolding header_of
 is-first text h = ap (λ (t : Bool). cond t header2 header1) (ne_eqb (opening_of mapping_header2 text).number 0 h)
+
+-- what is left of a text, as a text of its own
+module _ (text : List ℕ) (at : ℕ) where
+  pub rest_lem : take (length text - at) (drop at text) ≡ drop at text
+  rest_lem = take_all (length text - at) (drop at text) (omega (arith, length-drop at text))
+
+  pub lined_rest : Lined text at → Lined (take (length text - at) (drop at text)) 0
+  lined_rest h = subst (λ (l : List ℕ). Lined l 0) (sym rest_lem) (record {
+    within = omega arith;
+    last = λ k.
+        let n = length-drop at text in
+        let q : at + (length (drop at text) - 1) ≡ length text - 1 = omega (arith, n, k) in
+        get_or-drop at text (length (drop at text) - 1) 0 ∙ ap (λ (j : ℕ). get_or text j 0) q ∙ h.last (omega (arith, n, k));
+  })

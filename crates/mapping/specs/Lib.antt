@@ -1,4 +1,5 @@
 pub mod Headers
+pub mod Mapped
 pub mod Reading
 pub mod Text
 pub mod networks

@@ -1,16 +1,19 @@
 -- Reading a mapping text (01-scope.md, "The mapping text"): "`map` name network, one line for each message in message order".
-use Rattle.std.specs.Prelude.{ℕ, suc, ◌-◌, cond, List, [], ◌∷◌, ◌++◌, map, length, drop, replicate, eqb}
+use Rattle.std.specs.Prelude.{ℕ, suc, ◌-◌, cond, List, [], ◌∷◌, ◌++◌, map, length, drop, replicate, eqb, Result, Ok, Err}
 use Rattle.text.specs.Parts.{split, lines}
+use Rattle.rules.specs.declared.Network.{Network}
 use Rattle.rules.specs.Numbers.{as_network}
 use Rattle.papers.specs.declared.Refusal.{Refusal}
 use Rattle.papers.specs.Checks.{refusal, none}
+use Rattle.papers.specs.declared.refused.Refused.{Refused}
+use Rattle.papers.specs.refused.Refused.{told_refusal}
 use Rattle.papers.specs.Opening.{opening_of}
 use Rattle.tables.specs.declared.MessageRow.{MessageRow}
 use Rattle.mapping.specs.networks.Networks.{network_of_lem}
 use Rattle.text.specs.Line.{field}
 use Rattle.mapping.specs.Headers.{Header, header_of}
 use Rattle.mapping.specs.lines.Line.{map_refusal}
-use Rattle.mapping.specs.declared.Mapped.{Mapped}
+use Rattle.mapping.specs.Mapped.{Mapped}
 
 -- ---- the reading
 
@@ -46,3 +49,10 @@ read_under header messages text =
 
 unfoldable pub read_mapping_lem : List MessageRow → List ℕ → Mapped
 read_mapping_lem messages text = read_under (header_of text) messages text
+
+-- ---- the code's answer
+
+-- What an answer of the code says of the mapping.
+abbrev pub mapped_of : Result (List Network) Refused → Mapped
+mapped_of (Ok ns) = record { refusal = none; networks = ns }
+mapped_of (Err r) = maps_refused (told_refusal r)

@@ -4,115 +4,95 @@
 pub mod lines;
 pub mod networks;
 
-ghost use Rattle.std.specs.Prelude.{◌≡◌, [], ◌≤◌, take, drop};
+ghost use Rattle.std.specs.Prelude.{◌≡◌, [], ◌≤◌, length};
 ghost use Rattle.text.specs.Parts.{lines};
-ghost use Rattle.papers.specs.Checks.{field_refusal};
 ghost use Rattle.papers.specs.Lined.{Lined};
-ghost use Rattle.mapping.specs.Reading.{maps_refused, read_maps, read_mapping_lem};
+ghost use Rattle.mapping.specs.Headers.{header_of};
+ghost use Rattle.mapping.specs.Reading.{mapped_of, read_maps, read_mapping_lem};
 
-use crate::lines::MapShape;
-use papers::Refusal;
+use papers::records::Record;
+use papers::refused::{Reason, Refused};
 use rules::Network;
 use tables::MessageRow;
 
-// How many `map` lines each of the two headers allows, and how many networks there are under it.
-const FIRST_MOST: usize = 32;
-
-const SECOND_MOST: usize = 64;
-
-// What reading a mapping gives: the network of each message, or why and where it is refused.
+// A header: the first line, and how many `map` lines it allows. So many networks there are under it.
 #[derive(Clone, Copy)]
-pub struct Mapped {
-    pub refusal: Refusal,
-    pub networks: [Network; tables::MESSAGES],
+pub(crate) struct Header {
+    pub line: &'static [u8],
+    pub most: usize,
+    pub ghost limits: { (10 ≤ most) × (most ≤ 64) },
 }
 
-// A mapping that is refused has no networks.
-fn refuse(why: Refusal) -> Mapped
-    ensures { result ≡ maps_refused why }
+const FIRST: Header = Header {
+    line: &text::words::MAPPING_HEADER,
+    most: 32,
+};
+
+const SECOND: Header = Header {
+    line: &text::words::MAPPING_HEADER_2,
+    most: 64,
+};
+
+// The header that the text is read under: the second where the text opens with it, and else the first.
+fn header_of(text: &[u8]) -> Header
+    ensures line { result.line.now ≡ (header_of text.now).line }
+    ensures most { result.most ≡ (header_of text.now).most }
 {
-    Mapped {
-        refusal: why,
-        networks: [Network(0); tables::MESSAGES],
+    if papers::opening(SECOND.line, text).is_ok() {
+        return SECOND;
     }
+    FIRST
 }
 
-// A mapping that is refused at its nth line, for this field.
-fn refuse_at(number: u8, field: u8, nth: usize) -> Mapped
-    ensures { result ≡ maps_refused (field_refusal number nth field) }
-{
-    refuse(Refusal {
-        number: number,
-        line: nth,
-        field: field,
-    })
-}
-
-// The map lines from a place on, of which the header allows `most`. The line of message i is line i + 2. A line that is one too many, or that is
-// missing, tells no field: no field of it is wrong.
+// The networks of the messages by the lines of a text behind its header. The line of message i is line i + 2. A line that is one too many, or that
+// is missing, tells no field: no field of it is wrong.
 fn map_lines(
     text: &[u8],
-    from: usize,
-    messages: [MessageRow; tables::MESSAGES],
-    count: usize,
-    most: usize,
-) -> Mapped
-    requires { Lined text.now from × (count ≤ 64) × (10 ≤ most) × (most ≤ 64) }
-    ensures { result ≡ read_maps most 2 (lines (drop from text.now)) (take count messages) [] }
+    messages: &[MessageRow],
+    header: Header,
+) -> Result<[Network; tables::MESSAGES], Refused>
+    requires { Lined text.now 0 × (length messages.now ≤ 64) }
+    ensures { mapped_of result ≡ read_maps header.most 2 (lines text.now) messages.now [] }
 {
     let n = text.len();
     let mut networks = [Network(0); tables::MESSAGES];
-    let mut at = from;
+    let mut at = 0;
     let mut i = 0;
+    // By hand: `split_inclusive` would leave byte 10 on each line, and how many lines there were is asked for behind the loop.
     while at < n {
         let e = text::find(text, 10, at, n);
+        let line = Record::of(&text[at..e]);
         let nth = i + 2;
-        if let MapShape::Wrong(field) = crate::lines::is_map(&text[at..e]) {
-            return refuse_at(papers::SHAPE, field, nth);
+        if let Err(field) = crate::lines::is_map(&line) {
+            return Err(Refused::at(Reason::Shape, nth, field));
         }
-        if i == most {
-            return refuse_at(papers::FULL, 0, nth);
+        if i == header.most {
+            return Err(Refused::whole(Reason::Full, nth));
         }
-        if i == count {
-            return refuse_at(papers::UNMATCHED, 0, nth);
-        }
-        let row = messages[i];
-        let line = crate::lines::map_line(&text[at..e], nth, row, most);
-        if line.refusal.number != 0 {
-            return refuse(line.refusal);
-        }
-        let network = line.network;
-        networks[i] = network;
+        let Some(message) = messages.get(i) else {
+            return Err(Refused::whole(Reason::Unmatched, nth));
+        };
+        networks[i] = crate::lines::map_line(&line, nth, message, header)?;
         at = e + 1;
         i += 1;
     }
-    if i < count {
-        let missing = i + 2;
-        return refuse_at(papers::UNMATCHED, 0, missing);
+    if i < messages.len() {
+        return Err(Refused::whole(Reason::Unmatched, i + 2));
     }
-    Mapped {
-        refusal: Refusal {
-            number: 0,
-            line: 0,
-            field: 0,
-        },
-        networks: networks,
-    }
+    Ok(networks)
 }
 
-// The networks of the messages, which are the first `count` rows, as the text gives them under its header.
-pub fn read_mapping(text: &[u8], messages: [MessageRow; tables::MESSAGES], count: usize) -> Mapped
-    requires { count ≤ 64 }
-    ensures { result ≡ read_mapping_lem (take count messages) text.now }
+// The networks of the messages, as the text gives them under its header, or why and where it is refused. There are as many as messages may be, in
+// fixed memory, and those past the last message are 0.
+pub fn read_mapping(
+    text: &[u8],
+    messages: &[MessageRow],
+) -> Result<[Network; tables::MESSAGES], Refused>
+    requires { length messages.now ≤ 64 }
+    ensures { mapped_of result ≡ read_mapping_lem messages.now text.now }
 {
+    let header = header_of(text);
+    papers::opening(header.line, text)?;
     let e = text::find(text, 10, 0, text.len());
-    let second = papers::opening(&text::words::MAPPING_HEADER_2, text);
-    if second.number == 0 {
-        return map_lines(text, e + 1, messages, count, SECOND_MOST);
-    }
-    let opening = papers::opening(&text::words::MAPPING_HEADER, text);
-    if opening.number != 0 {
-        return refuse(opening);
-    }
-    map_lines(text, e + 1, messages, count, FIRST_MOST)
+    map_lines(&text[e + 1..], messages, header)
 }

@@ -4,7 +4,7 @@ use mathlib.Core.Bool.{Bool, true, false, not, ◌&&◌, cond, and-false}
 use mathlib.Core.List.{List, [], ◌∷◌}
 use Prim.Native.Nat.{ℕ, ◌<◌, ◌≤◌}
 use native.Mathlib.Omega.{arith}
-use lib.ListN.{length, get_or}
+use lib.ListN.{length}
 use lib.Dec.{eqb}
 use borrow.Author.Tests.{eqb-true, eq-eqb, ne_eqb, le-leb, lt-leb}
 use Rattle.text.specs.Parts.{is_same_text, split}
@@ -12,64 +12,68 @@ use Rattle.rules.specs.Numbers.{as_network}
 use Rattle.text.specs.Line.{Line, field, says}
 use Rattle.text.specs.Name.{name_text}
 use Rattle.text.specs.Words.{map_word}
-use Rattle.text.specs.Fields.{fields_of}
 use Rattle.text.specs.declared.Fields.{Fields}
-use Rattle.text.proofs.FieldLaws.{FieldAt, count-some}
-use Rattle.papers.specs.declared.Refusal.{Refusal}
 use Rattle.papers.specs.Checks.{Check, check, field_check, refusal, field_refusal, none, first_of}
 use Rattle.papers.specs.Fields.{looked, first_bad_field}
 use Rattle.papers.proofs.Checks.{first-given, first-passed}
 use Rattle.papers.proofs.Fields.{bad-first, good-first}
-use Rattle.papers.proofs.WholeLine.{whole-count, told-field}
+use Rattle.papers.proofs.WholeLine.{whole-count, count-whole}
+use Rattle.papers.specs.declared.refused.Field.{Field}
+use Rattle.papers.specs.declared.refused.Refused.{Refused}
+use Rattle.papers.specs.refused.Refused.{told_refusal}
+use Rattle.papers.specs.records.FieldsAre.{FieldsAre}
+use Rattle.std.specs.Prelude.{Result, Ok, Err, ⊤}
+use Rattle.rules.specs.declared.Network.{Network}
 use Rattle.tables.specs.declared.MessageRow.{MessageRow}
-use Rattle.mapping.specs.declared.lines.MapLine.{MapLine}
-use Rattle.mapping.specs.declared.lines.MapShape.{MapShape}
-use Rattle.mapping.specs.declared.lines.MapShape.TheVariants.{Is as IsMap, Wrong as WrongMap}
 use Rattle.mapping.specs.networks.Networks.{network_of_lem, is_network}
 use Rattle.mapping.specs.lines.Line.{map_shaped, map_shape_field, map_shape, maps_full, matches, match_field, map_refusal, MapTold}
 
 -- ---- the shape
 
-module _ (f : Line) where
-  abbrev shape_by : Bool → MapShape
-  shape_by t = cond t IsMap (WrongMap (map_shape_field f))
+-- a field that is wrong
+abbrev pub wrong_at : ℕ → Result ⊤ Field
+wrong_at n = Err (record { 0 = n })
 
-  wrong-by : (n : ℕ) → map_shaped f ≡ false → map_shape_field f ≡ n → WrongMap n ≡ map_shape f
+module _ (f : Line) where
+  abbrev shape_by : Bool → Result ⊤ Field
+  shape_by t = cond t (Ok tt) (wrong_at (map_shape_field f))
+
+  wrong-by : (n : ℕ) → map_shaped f ≡ false → map_shape_field f ≡ n → wrong_at n ≡ map_shape f
   unfolding map_shape
-  wrong-by n e q = ap WrongMap (sym q) ∙ sym (ap shape_by e)
+  wrong-by n e q = ap wrong_at (sym q) ∙ sym (ap shape_by e)
 
   -- the word is another
-  pub shape-word : says f 0 map_word ≡ false → WrongMap 1 ≡ map_shape f
+  pub shape-word : says f 0 map_word ≡ false → wrong_at 1 ≡ map_shape f
   shape-word e =
       wrong-by 1 (ap (λ (t : Bool). eqb (length f) 3 && t) e ∙ and-false (eqb (length f) 3)) (bad-first (looked 1 (not (says f 0 map_word))) [] (ap not e))
 
   module _ (w : says f 0 map_word ≡ true) where
     -- only the number of fields is another
-    pub shape-length : (length f ≡ 3 → ⊥) → WrongMap 0 ≡ map_shape f
+    pub shape-length : (length f ≡ 3 → ⊥) → wrong_at 0 ≡ map_shape f
     unfolding first_bad_field
     shape-length h =
         wrong-by 0 (ap (λ (t : Bool). t && says f 0 map_word) (ne_eqb (length f) 3 h)) (good-first (looked 1 (not (says f 0 map_word))) [] (ap not w))
 
-    pub shape_is : length f ≡ 3 → IsMap ≡ map_shape f
+    pub shape_is : length f ≡ 3 → Ok tt ≡ map_shape f
     unfolding map_shape
     shape_is h = sym (ap shape_by (ap (λ (t : Bool). t && says f 0 map_word) (eq-eqb (length f) 3 h) ∙ w))
 
   -- from what was told
-  pub is-shaped : IsMap ≡ map_shape f → map_shaped f ≡ true
+  pub is-shaped : (u : ⊤) → map_shape f ≡ Ok u → map_shaped f ≡ true
   unfolding map_shape
-  is-shaped e = go (map_shaped f) refl
+  is-shaped u e = go (map_shaped f) refl
     where
       go : (t : Bool) → map_shaped f ≡ t → map_shaped f ≡ true
       go true q = q
-      go false q = absurd (let z : IsMap ≡ WrongMap (map_shape_field f) = e ∙ ap shape_by q in let k : ◌≡◌ {A = ℕ} 0 1 = cc in omega arith)
+      go false q = absurd (let z : Ok u ≡ wrong_at (map_shape_field f) = sym e ∙ ap shape_by q in let k : ◌≡◌ {A = ℕ} 0 1 = cc in omega arith)
 
-  pub wrong-shaped : (n : ℕ) → WrongMap n ≡ map_shape f → (map_shaped f ≡ false) × (map_shape_field f ≡ n)
+  pub wrong-shaped : (x : Field) → map_shape f ≡ Err x → (map_shaped f ≡ false) × (map_shape_field f ≡ x.0)
   unfolding map_shape
-  wrong-shaped n e = go (map_shaped f) refl
+  wrong-shaped x e = go (map_shaped f) refl
     where
-      go : (t : Bool) → map_shaped f ≡ t → (map_shaped f ≡ false) × (map_shape_field f ≡ n)
-      go true q = absurd (let z : WrongMap n ≡ IsMap = e ∙ ap shape_by q in let k : ◌≡◌ {A = ℕ} 0 1 = cc in omega arith)
-      go false q = (q, let z : WrongMap n ≡ WrongMap (map_shape_field f) = e ∙ ap shape_by q in cc)
+      go : (t : Bool) → map_shaped f ≡ t → (map_shaped f ≡ false) × (map_shape_field f ≡ x.0)
+      go true q = absurd (let z : Err x ≡ Ok tt = sym e ∙ ap shape_by q in let k : ◌≡◌ {A = ℕ} 0 1 = cc in omega arith)
+      go false q = (q, let z : ◌≡◌ {A = Result ⊤ Field} (Err x) (wrong_at (map_shape_field f)) = sym e ∙ ap shape_by q in cc)
 
 shaped-three : (f : Line) → map_shaped f ≡ true → length f ≡ 3
 shaped-three f e = go (eqb (length f) 3) refl
@@ -78,18 +82,16 @@ shaped-three f e = go (eqb (length f) 3) refl
     go true q = eqb-true (length f) 3 q
     go false q = absurd (let z : ◌≡◌ {A = Bool} false true = ap (λ (t : Bool). t && says f 0 map_word) (sym q) ∙ e in let k : ◌≡◌ {A = ℕ} 0 1 = cc in omega arith)
 
-shape-count : (l : List ℕ) → map_shaped (split 9 l) ≡ true → (fields_of l 0 (length l)).count ≡ 3
-shape-count l h = whole-count l 3 (omega arith) (shaped-three (split 9 l) h)
+-- how many fields a record has
+module _ (line : List ℕ) (r : Fields) (are : FieldsAre line r) where
+  pub shaped-count : map_shaped (split 9 line) ≡ true → r.count ≡ 3
+  shaped-count h = ap (λ (s : Fields). s.count) are ∙ whole-count line 3 (omega arith) (shaped-three (split 9 line) h)
 
--- where the first field stands, which every line has
-pub first_field : (l : List ℕ) (r : Fields) → r ≡ fields_of l 0 (length l)
-    → FieldAt l 0 (length l) (get_or r.from 0 0) (get_or r.to 0 0) (field (split 9 l) 0)
-first_field l r e = told-field l r 0 e (omega (arith, ap (λ (s : Fields). s.count) e, count-some l 0 (length l)))
+  pub three : r.count ≡ 3 → length (split 9 line) ≡ 3
+  three e = count-whole line 3 (omega arith) (ap (λ (s : Fields). s.count) (sym are) ∙ e)
 
--- where the fields of a shaped line stand
-pub map-field : (l : List ℕ) (r : Fields) (i : ℕ) → map_shaped (split 9 l) ≡ true → r ≡ fields_of l 0 (length l) → i < 3
-    → FieldAt l 0 (length l) (get_or r.from i 0) (get_or r.to i 0) (field (split 9 l) i)
-map-field l r i h e k = told-field l r i e (omega (arith, ap (λ (s : Fields). s.count) e, shape-count l h))
+  pub not-three : (r.count ≡ 3 → ⊥) → length (split 9 line) ≡ 3 → ⊥
+  not-three h e = h (ap (λ (s : Fields). s.count) are ∙ whole-count line 3 (omega arith) e)
 
 -- ---- the first of a line's checks
 
@@ -147,12 +149,11 @@ module _ (most before k : ℕ) (f : Line) where
 
 -- ---- what a line gives
 
-module _ (most k : ℕ) (m : MessageRow) (f : Line) (r : MapLine) where
+module _ (most k : ℕ) (m : MessageRow) (f : Line) where
   -- it is refused
-  pub gives_none : (n i : ℕ) → (n ≡ 0 → ⊥) → ((before : ℕ) → before < most → map_refusal most before (m ∷ []) k f ≡ field_refusal n k i) → r.refusal ≡ field_refusal n k i
-      → MapTold most k m f r
-  gives_none n i h e q = record { told = λ before room. q ∙ sym (e before room); network = λ z. absurd (h (sym (ap (λ (x : Refusal). x.number) q) ∙ z)) }
+  pub gives_none : (r : Refused) → ((before : ℕ) → before < most → map_refusal most before (m ∷ []) k f ≡ told_refusal r) → MapTold most k m f (Err r)
+  gives_none r e = record { told = λ before room. sym (e before room); network = tt }
 
   -- it gives its network
-  pub gives-network : ((before : ℕ) → before < most → map_refusal most before (m ∷ []) k f ≡ none) → r.refusal ≡ none → r.network ≡ as_network (network_of_lem most (field f 2)) → MapTold most k m f r
-  gives-network e q n = record { told = λ before room. q ∙ sym (e before room); network = λ z. n }
+  pub gives-network : (n : Network) → ((before : ℕ) → before < most → map_refusal most before (m ∷ []) k f ≡ none) → n ≡ as_network (network_of_lem most (field f 2)) → MapTold most k m f (Ok n)
+  gives-network n e q = record { told = λ before room. sym (e before room); network = q }

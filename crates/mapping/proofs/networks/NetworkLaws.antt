@@ -15,9 +15,10 @@ use Rattle.rules.specs.Lists.{up_to}
 use Rattle.text.specs.Parts.{first_index}
 use Rattle.text.specs.Written.{decimal}
 use Rattle.text.proofs.Parts.{true_same, same_false, first-at, first-none}
-use Rattle.text.proofs.Found.{found-is, found_nothing}
+use Rattle.text.proofs.Found.{found_nothing}
 use Rattle.text.proofs.Written.{decimal-small, decimal_step}
-use Rattle.mapping.specs.declared.networks.FoundNetwork.TheVariants.{Is as IsNetwork, Nothing as NoNetwork}
+use Rattle.std.specs.Prelude.{Some, None}
+use Rattle.std.proofs.lemmas.Option.{cond_some, none-some, same_Some}
 use Rattle.mapping.specs.networks.Networks.{written_as, network_of_lem, is_network, found_network}
 
 module _ {A : Type 0} where
@@ -54,6 +55,18 @@ value-decimal n h =
 
 pub decimal-same : (m n : ℕ) → m < 100 → n < 100 → decimal m ≡ decimal n → m ≡ n
 decimal-same m n h k e = sym (value-decimal m h) ∙ ap value e ∙ value-decimal n k
+
+-- a list by its length
+of_one : (x : List ℕ) → length x ≡ 1 → x ≡ get_or x 0 0 ∷ []
+of_one [] e = absurd (omega arith)
+of_one (a ∷ []) e = refl
+of_one (a ∷ b ∷ l) e = absurd (omega arith)
+
+of_two : (x : List ℕ) → length x ≡ 2 → x ≡ get_or x 0 0 ∷ get_or x 1 0 ∷ []
+of_two [] e = absurd (omega arith)
+of_two (a ∷ []) e = absurd (omega arith)
+of_two (a ∷ b ∷ []) e = refl
+of_two (a ∷ b ∷ d ∷ l) e = absurd (omega arith)
 
 -- ---- the network, of `most`
 
@@ -136,33 +149,41 @@ module _ (most : ℕ) where
   -- ---- what is found
 
   module _ (x : List ℕ) where
-    pub found-network : (n : ℕ) → network_of_lem most x ≡ n → n < most → IsNetwork (as_network n) ≡ found_network most x
+    pub found-network : (n : ℕ) → network_of_lem most x ≡ n → n < most → Some (as_network n) ≡ found_network most x
     unfolding found_network
-    found-network n e h = sym (ap (λ (k : ℕ). cond (ltb k most) (IsNetwork (as_network k)) NoNetwork) e ∙ ap (λ (b : Bool). cond b (IsNetwork (as_network n)) NoNetwork) (lt-ltb n most h))
+    found-network n e h = sym (ap (λ (k : ℕ). cond (ltb k most) (Some (as_network k)) None) e ∙ ap (λ (b : Bool). cond b (Some (as_network n)) None) (lt-ltb n most h))
 
-    pub found_none : network_of_lem most x ≡ most → NoNetwork ≡ found_network most x
+    pub found_none : network_of_lem most x ≡ most → None ≡ found_network most x
     unfolding found_network
     found_none e =
-        sym (ap (λ (k : ℕ). cond (ltb k most) (IsNetwork (as_network k)) NoNetwork) e
-        ∙ ap (λ (b : Bool). cond b (IsNetwork (as_network most)) NoNetwork) (le-ltb most most (omega arith)))
+        sym (ap (λ (k : ℕ). cond (ltb k most) (Some (as_network k)) None) e
+        ∙ ap (λ (b : Bool). cond b (Some (as_network most)) None) (le-ltb most most (omega arith)))
 
     -- from what was found
-    pub is_found : (n : Network) → IsNetwork n ≡ found_network most x → (is_network most x ≡ true) × (n ≡ as_network (network_of_lem most x))
+    pub is_found : (n : Network) → Some n ≡ found_network most x → (is_network most x ≡ true) × (n ≡ as_network (network_of_lem most x))
     unfolding found_network
-    is_found n e = found-is IsNetwork NoNetwork (λ a b q. cc) (λ a q. let z : ◌≡◌ {A = ℕ} 0 1 = cc in omega arith) (is_network most x) (as_network (network_of_lem most x)) n e
+    is_found n e = let p = cond_some (is_network most x) (as_network (network_of_lem most x)) n (sym e) in (p.0, sym p.1)
 
-    pub not_found : NoNetwork ≡ found_network most x → is_network most x ≡ false
+    pub not_found : None ≡ found_network most x → is_network most x ≡ false
     unfolding found_network
-    not_found e = found_nothing IsNetwork NoNetwork (λ a b q. cc) (λ a q. let z : ◌≡◌ {A = ℕ} 0 1 = cc in omega arith) (is_network most x) (as_network (network_of_lem most x)) e
+    not_found e = found_nothing Some None (λ a b. same_Some a b) (λ a q. none-some a (sym q)) (is_network most x) (as_network (network_of_lem most x)) e
 
--- a list by its length
-pub of_one : (x : List ℕ) → length x ≡ 1 → x ≡ get_or x 0 0 ∷ []
-of_one [] e = absurd (omega arith)
-of_one (a ∷ []) e = refl
-of_one (a ∷ b ∷ l) e = absurd (omega arith)
+  -- ---- by how many digits there are
 
-pub of_two : (x : List ℕ) → length x ≡ 2 → x ≡ get_or x 0 0 ∷ get_or x 1 0 ∷ []
-of_two [] e = absurd (omega arith)
-of_two (a ∷ []) e = absurd (omega arith)
-of_two (a ∷ b ∷ []) e = refl
-of_two (a ∷ b ∷ d ∷ l) e = absurd (omega arith)
+  module _ (some : 10 ≤ most) (few : most ≤ 100) (x : List ℕ) where
+    pub one_digit : (n : ℕ) → length x ≡ 1 → 48 ≤ get_or x 0 0 → get_or x 0 0 ≤ 57 → n ≡ get_or x 0 0 - 48 → Some (as_network n) ≡ found_network most x
+    one_digit n e h k q =
+        found-network x n (ap (network_of_lem most) (of_one x e) ∙ one_found some few (get_or x 0 0) h k ∙ sym q) (omega arith)
+
+    pub two_digits : (n : ℕ) → length x ≡ 2 → 49 ≤ get_or x 0 0 → 48 ≤ get_or x 1 0 → get_or x 1 0 ≤ 57 → n ≡ (get_or x 0 0 - 48) * 10 + (get_or x 1 0 - 48) → n < most
+        → Some (as_network n) ≡ found_network most x
+    two_digits n e h k l q m =
+        found-network x n (ap (network_of_lem most) (of_two x e) ∙ two-found some few (get_or x 0 0) (get_or x 1 0) h k l (omega arith) ∙ sym q) m
+
+  pub no_digits : 10 ≤ most → most ≤ 100 → (x : List ℕ) → (length x ≡ 1 → 48 ≤ get_or x 0 0 → get_or x 0 0 ≤ 57 → ⊥)
+      → (length x ≡ 2 → 49 ≤ get_or x 0 0 → 48 ≤ get_or x 1 0 → get_or x 1 0 ≤ 57 → (get_or x 0 0 - 48) * 10 + (get_or x 1 0 - 48) < most → ⊥)
+      → None ≡ found_network most x
+  no_digits some few [] f g = found_none [] (length_none some few [] (λ e. omega arith) (λ e. omega arith))
+  no_digits some few (a ∷ []) f g = found_none (a ∷ []) (one_none some few a (λ h k. f refl h k))
+  no_digits some few (a ∷ b ∷ []) f g = found_none (a ∷ b ∷ []) (two_none some few a b (λ h k l m. g refl h k l m))
+  no_digits some few (a ∷ b ∷ d ∷ l) f g = found_none (a ∷ b ∷ d ∷ l) (length_none some few (a ∷ b ∷ d ∷ l) (λ e. omega arith) (λ e. omega arith))

@@ -1,75 +1,63 @@
 -- `mapping::read_mapping` meets its contract.
-use Prim.Native.Nat.{ℕ, ◌+◌}
-use mathlib.Core.Path.{◌≡◌, sym, ap, ◌∙◌, subst}
-use mathlib.Core.List.{[]}
-use lib.ListN.{take, drop}
+use Prim.Native.Nat.{ℕ, ◌+◌, ◌-◌}
+use mathlib.Core.Path.{◌≡◌, refl, sym, ap, ◌∙◌, subst}
+use mathlib.Core.List.{List, []}
+use lib.ListN.{length, take, drop}
 use native.Mathlib.Omega.{arith}
 use Rattle.text.specs.Parts.{lines}
-use Rattle.text.specs.Words.{mapping_header, mapping_header2}
 use Rattle.papers.specs.declared.Refusal.{Refusal}
+use Rattle.papers.specs.refused.Refused.{told_refusal}
 use Rattle.papers.specs.Lined.{Lined}
 use Rattle.papers.specs.Opening.{opening_of}
+use Rattle.papers.proofs.Refusals.{told-some}
 use Rattle.papers.proofs.OpeningLaws.{opened}
-use Rattle.mapping.specs.Headers.{header1, header2, header_of}
-use Rattle.mapping.specs.Reading.{maps_refused, read_maps}
-use Rattle.mapping.proofs.ReadLaws.{reading-refused, reading-lines, is-first, is-second}
-use Rattle.mapping.proofs.read_mapping.Goals.{Then-second-eq0, Else-second-eq0, Else-opening-ne0}
+use Rattle.mapping.specs.Headers.{header_of}
+use Rattle.mapping.specs.Reading.{mapped_of, maps_refused, read_maps}
+use Rattle.mapping.proofs.Told.{handed-on}
+use Rattle.mapping.proofs.ReadLaws.{reading-refused, reading-lines, rest_lem, lined_rest}
+use Rattle.mapping.proofs.read_mapping.Goals.{In_ok-opening}
 use Rattle.mapping.proofs.read_mapping.Goals as goal
 
-abbrev number : Refusal → ℕ
-number r = r.number
+-- the text opens with its header
+opens : (c : In_ok-opening) → (opening_of (header_of c.args.text.now).line c.args.text.now).number ≡ 0
+opens c =
+    let text = c.args.text.now in
+    ap (λ (l : List ℕ). (opening_of l text).number) (sym c.header_of-header.ensures.line) ∙ ap (λ (r : Refusal). r.number) (sym c.in_ok-opening.ensures)
 
--- the text opens with the second header
-second : (c : Then-second-eq0) → (opening_of mapping_header2 c.args.text.now).number ≡ 0
-second c = sym (ap number c.opening-second.ensures) ∙ c.if-second-eq0.true
-
--- it does not, and is read under the first
-under : (c : Else-second-eq0) → header_of c.args.text.now ≡ header1
-under c = is-first c.args.text.now (λ q. c.if-second-eq0.false (ap number c.opening-second.ensures ∙ q))
-
--- it opens with the first header
-first : (c : Else-opening-ne0) → (opening_of mapping_header c.args.text.now).number ≡ 0
-first c = sym (ap number c.opening-opening.ensures) ∙ c.if-opening-ne0.false
+pub returns-in_err-opening : goal.returns-in_err-opening
+returns-in_err-opening c =
+    let text = c.args.text.now in
+    let why = c.in_err-opening.field-0.0 in
+    let told : told_refusal why ≡ opening_of (header_of text).line text = c.in_err-opening.ensures ∙ ap (λ (l : List ℕ). opening_of l text) c.header_of-header.ensures.line in
+    ap mapped_of (handed-on c.from_residual.result why c.from_residual.ensures.1) ∙ ap maps_refused told
+    ∙ sym (reading-refused c.args.messages.now text (header_of text) refl (λ z. told-some why (ap (λ (r : Refusal). r.number) told ∙ z)))
 
 pub overflow_add-e : goal.overflow_add-e
 overflow_add-e c =
-    let s = second (goal.at.overflow_add-e c).Then-second-eq0 in
-    omega (arith, (opened mapping_header2 c.args.text.now s).ends, c.find-e.ensures)
+    let o = opened _ _ (opens (goal.at.overflow_add-e c).In_ok-opening) in
+    omega (arith, o.ends, c.find-e.ensures)
+
+pub slice_bounds-map_lines-count : goal.slice_bounds-map_lines-count
+slice_bounds-map_lines-count c =
+    let o = opened _ _ (opens (goal.at.slice_bounds-map_lines-count c).In_ok-opening) in
+    omega (arith, o.ends, c.find-e.ensures)
+
+pub slice_bounds-map_lines-start : goal.slice_bounds-map_lines-start
+slice_bounds-map_lines-start c =
+    let o = opened _ _ (opens (goal.at.slice_bounds-map_lines-start c).In_ok-opening) in
+    omega (arith, o.ends, c.find-e.ensures)
 
 pub map_lines-requires : goal.map_lines-requires
 map_lines-requires c =
-    let s = second (goal.at.map_lines-requires c).Then-second-eq0 in
-    (subst (λ (e : ℕ). Lined c.args.text.now (e + 1)) (sym c.find-e.ensures) (opened mapping_header2 c.args.text.now s).more, c.requires, omega arith, omega arith)
-
-pub returns-then-second-eq0 : goal.returns-then-second-eq0
-returns-then-second-eq0 c =
-    let s = second (goal.at.returns-then-second-eq0 c).Then-second-eq0 in
-    let a = c.args in
-    let ms = take a.count a.messages in
-    reading-lines ms a.text.now header2 (is-second a.text.now s) c.map_lines.result s
-    (c.map_lines.ensures ∙ ap (λ (e : ℕ). read_maps 64 2 (lines (drop (e + 1) a.text.now)) ms []) c.find-e.ensures)
-
-pub returns-then-opening-ne0 : goal.returns-then-opening-ne0
-returns-then-opening-ne0 c =
-    let a = c.args in
-    let o = c.opening-opening.ensures in
-    c.refuse.ensures ∙ ap maps_refused o
-    ∙ sym (reading-refused (take a.count a.messages) a.text.now header1 (under (goal.at.returns-then-opening-ne0 c).Else-second-eq0) (λ q. c.if-opening-ne0.true (ap number o ∙ q)))
-
-pub overflow_add-e-2 : goal.overflow_add-e-2
-overflow_add-e-2 c =
-    let f = first (goal.at.overflow_add-e-2 c).Else-opening-ne0 in
-    omega (arith, (opened mapping_header c.args.text.now f).ends, c.find-e.ensures)
-
-pub map_lines-requires-2 : goal.map_lines-requires-2
-map_lines-requires-2 c =
-    let f = first (goal.at.map_lines-requires-2 c).Else-opening-ne0 in
-    (subst (λ (e : ℕ). Lined c.args.text.now (e + 1)) (sym c.find-e.ensures) (opened mapping_header c.args.text.now f).more, c.requires, omega arith, omega arith)
+    let text = c.args.text.now in
+    let o = opened _ _ (opens (goal.at.map_lines-requires c).In_ok-opening) in
+    (lined_rest text _ (subst (λ (e : ℕ). Lined text (e + 1)) (sym c.find-e.ensures) o.more), c.requires)
 
 pub returns : goal.returns
 returns c =
-    let f = first (goal.at.returns c).Else-opening-ne0 in
-    let a = c.args in
-    let ms = take a.count a.messages in
-    reading-lines ms a.text.now header1 (under (goal.at.returns c).Else-second-eq0) c.map_lines-2.result f
-    (c.map_lines-2.ensures ∙ ap (λ (e : ℕ). read_maps 32 2 (lines (drop (e + 1) a.text.now)) ms []) c.find-e.ensures)
+    let text = c.args.text.now in
+    let ms = c.args.messages.now in
+    reading-lines ms text (header_of text) refl _ (opens (goal.at.returns c).In_ok-opening)
+    (c.map_lines.ensures ∙ ap (λ (most : ℕ). read_maps most 2 (lines (take (length text - (c.find-e.result + 1)) (drop (c.find-e.result + 1) text))) ms []) c.header_of-header.ensures.most
+    ∙ ap (λ (l : List ℕ). read_maps (header_of text).most 2 (lines l) ms []) (rest_lem text (c.find-e.result + 1))
+    ∙ ap (λ (e : ℕ). read_maps (header_of text).most 2 (lines (drop (e + 1) text)) ms []) c.find-e.ensures)

@@ -1,18 +1,19 @@
 -- One line of a mapping text (01-scope.md, "The mapping text"): "`map` name network". Its checks, and what it gives.
-use Rattle.std.specs.Prelude.{ℕ, ◌<◌, ◌≡◌, Bool, false, not, ◌&&◌, cond, List, [], ◌∷◌, length, eqb, leb}
+use Rattle.std.specs.Prelude.{ℕ, ◌<◌, ◌≡◌, Bool, false, not, ◌&&◌, cond, List, [], ◌∷◌, length, eqb, leb, Result, Ok, Err, IfOk, ⊤}
 use Rattle.text.specs.Parts.{is_same_text}
+use Rattle.rules.specs.declared.Network.{Network}
 use Rattle.rules.specs.Numbers.{as_network}
 use Rattle.text.specs.Line.{Line, field, says}
 use Rattle.text.specs.Name.{name_text}
 use Rattle.text.specs.Words.{map_word}
 use Rattle.papers.specs.declared.Refusal.{Refusal}
+use Rattle.papers.specs.declared.refused.Field.{Field}
+use Rattle.papers.specs.declared.refused.Refused.{Refused}
+use Rattle.papers.specs.refused.Refused.{refusal_of}
 use Rattle.papers.specs.Checks.{Check, check, field_check, first_of}
 use Rattle.papers.specs.Fields.{looked, first_bad_field}
 use Rattle.tables.specs.declared.MessageRow.{MessageRow}
 use Rattle.mapping.specs.networks.Networks.{network_of_lem, is_network}
-use Rattle.mapping.specs.declared.lines.MapLine.{MapLine}
-use Rattle.mapping.specs.declared.lines.MapShape.{MapShape}
-use Rattle.mapping.specs.declared.lines.MapShape.TheVariants.{Is as IsMap, Wrong as WrongMap}
 
 -- ---- a line's checks
 
@@ -25,8 +26,8 @@ abbrev pub map_shape_field : Line → ℕ
 map_shape_field f = first_bad_field (looked 1 (not (says f 0 map_word)) ∷ [])
 
 -- What is told of a line's shape: that it is a `map` line, or the field that 4 tells.
-unfoldable pub map_shape : Line → MapShape
-map_shape f = cond (map_shaped f) IsMap (WrongMap (map_shape_field f))
+unfoldable pub map_shape : Line → Result ⊤ Field
+map_shape f = cond (map_shaped f) (Ok tt) (Err (record { 0 = map_shape_field f }))
 
 -- 14 UNMATCHED: "mapping line names another message than the next, or is one too many". `next` are the messages that have no line yet.
 abbrev pub matches : List MessageRow → List ℕ → Bool
@@ -58,6 +59,6 @@ map_refusal most before next k f = first_of (map_checks most before next k f)
 -- ---- what a line gives
 
 -- Line k, where it is the turn of this message and the header allows one line more.
-pub record MapTold (most k : ℕ) (m : MessageRow) (f : Line) (r : MapLine) : Type 0 where
-  pub told : (before : ℕ) → before < most → r.refusal ≡ map_refusal most before (m ∷ []) k f
-  pub network : r.refusal.number ≡ 0 → r.network ≡ as_network (network_of_lem most (field f 2))
+pub record MapTold (most k : ℕ) (m : MessageRow) (f : Line) (r : Result Network Refused) : Type 0 where
+  pub told : (before : ℕ) → before < most → refusal_of r ≡ map_refusal most before (m ∷ []) k f
+  pub network : IfOk r (λ n. n ≡ as_network (network_of_lem most (field f 2)))
