@@ -13,7 +13,8 @@ use papers::refused::Reason;
 // Room for whatever a program prints.
 pub const PRINTED: usize = 4096;
 
-// What a program prints: so many bytes at the front. Memory is fixed, so an array holds them, and no Vec.
+// What a program prints: so many bytes at the front.
+// An array and a count, and no Vec: memory is fixed in this repository.
 #[derive(Clone, Copy)]
 pub struct PrintedBytes {
     pub bytes: [u8; PRINTED],

@@ -19,7 +19,7 @@
 // Everything in a line is parted by one blank.
 #![tactic(auto)]
 
-ghost use Rattle.std.specs.Prelude.{◌<◌, ◌≤◌, IfSome};
+ghost use Rattle.std.specs.Prelude.{◌≤◌};
 ghost use Rattle.tables.specs.Cells.{TablesOk};
 ghost use Rattle.cases.specs.Printable.{Printable};
 
@@ -69,16 +69,6 @@ fn goes_on_with(input: &mut impl Read, word: &[u8]) -> bool {
     true
 }
 
-// The value of a digit.
-fn digit(byte: u8) -> Option<usize>
-    ensures { IfSome result (λ d. d < 10) }
-{
-    match byte {
-        b'0'..=b'9' => Some(usize::from(byte - b'0')),
-        _ => None,
-    }
-}
-
 // A text's length, in at most five digits, and the byte that ends it.
 fn text_length(input: &mut impl Read, end: u8) -> Option<TextLength> {
     let mut bytes = 0;
@@ -87,7 +77,7 @@ fn text_length(input: &mut impl Read, end: u8) -> Option<TextLength> {
         if byte == end {
             return Some(TextLength { bytes });
         }
-        bytes = bytes * 10 + digit(byte)?;
+        bytes = bytes * 10 + char::from(byte).to_digit(10)? as usize;
         if bytes > MOST {
             return None;
         }

@@ -43,6 +43,7 @@ fn answers(rt: &(impl Files + Print), lines: &[u8]) -> io::Result<()> {
     Ok(())
 }
 
+// An array and a count, and no Text: a Text has more room than LIST, and would answer more of a longer list.
 fn main(rt: HostRuntime) -> io::Result<()> {
     let mut list = [0u8; LIST];
     let n = files::read_file(&rt, b"list", &mut list);

@@ -18,13 +18,12 @@ fn read_some<R: Read>(input: &mut R, text: &mut [u8]) -> usize
 // The bytes that are left, at the front of text, as far as there is room for them. An input that cannot be read counts as the
 // bytes that were read.
 //
-// The loop counts by hand: only a read tells how many bytes come, and std's read_exact tells none where an input ends early.
-// The answer is a count and no slice: the contract speaks of the lent text as it is after the call, which a result that
-// borrows it leaves no name for.
+// A count and no slice: where a result borrows the lent text, no clause can name what the text is then (in_bounds, same_count).
 pub fn read_full<R: Read>(input: &mut R, text: &mut [u8]) -> usize
     ensures in_bounds { result ≤ length text.new }
     ensures same_count { result ≡ length (take result text.new) }
 {
+    // A while: only a read tells how many bytes come, and std's read_exact tells no count where an input ends early.
     let mut done = 0;
     while done < text.len() {
         let n = read_some(input, &mut text[done..]);
@@ -55,8 +54,8 @@ pub fn read_file<F: Files>(files: &F, name: &[u8], text: &mut [u8]) -> usize
 // One byte more than the largest text: so much room tells that a text is too big.
 const ROOM: usize = papers::MOST_BYTES + 1;
 
-// A text that a program is given, as far as there is room for it. Memory is fixed, so it stands at the front of an array, and
-// no Vec holds it.
+// A text that a program is given, as far as there is room for it.
+// An array and a count, and no Vec: memory is fixed in this repository.
 #[derive(Drop)]
 pub struct Text {
     pub bytes: [u8; ROOM],
