@@ -24,12 +24,12 @@ pub(crate) struct Header {
 }
 
 const FIRST: Header = Header {
-    line: &text::words::MAPPING_HEADER,
+    line: text::words::MAPPING_HEADER,
     most: 32,
 };
 
 const SECOND: Header = Header {
-    line: &text::words::MAPPING_HEADER_2,
+    line: text::words::MAPPING_HEADER_2,
     most: 64,
 };
 

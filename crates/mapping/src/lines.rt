@@ -14,7 +14,7 @@ use tables::MessageRow;
 pub(crate) fn is_map(line: &Record) -> Result<(), Field>
     ensures { result ≡ map_shape (split 9 line.now.bytes.now) }
 {
-    if !line.is(&text::words::MAP) {
+    if !line.is(text::words::MAP) {
         return Err(Field(1));
     }
     if line.count() != 3 {

@@ -8,7 +8,7 @@ use Rattle.tables.specs.Tables.{no_cell_lem, cleared_tables, messages_of_lem, ev
 use Prim.Native.Nat.{ℕ}
 use mathlib.Core.Bool.{Bool}
 use mathlib.Core.List.{List}
-use lib.ListN.{take, length}
+use lib.ListN.{length}
 use Rattle.tables.specs.Clash.{any_clash_lem}
 use Rattle.text.specs.Parts.{first_index}
 use Rattle.tables.specs.declared.MessageRow.{MessageRow}

@@ -11,12 +11,10 @@ pub fn message_named(messages: &[MessageRow], part: &[u8]) -> Option<Message>
     requires { length messages.now ≤ 64 }
     ensures { result ≡ found_message (first_index (message_named_lem part.now) messages.now) (length messages.now) }
 {
-    for i in 0..messages.len() {
-        if text::names::named(messages[i].name, part) {
-            return Some(Message(i as u8));
-        }
-    }
-    None
+    let i = messages
+        .iter()
+        .position(|row| text::names::named(row.name, part))?;
+    Some(Message(i as u8))
 }
 
 // The event with this name, among the first rows.
@@ -24,12 +22,10 @@ pub fn event_named(events: &[EventRow], part: &[u8]) -> Option<Event>
     requires { length events.now ≤ 8 }
     ensures { result ≡ found_event (first_index (event_named_lem part.now) events.now) (length events.now) }
 {
-    for i in 0..events.len() {
-        if text::names::named(events[i].name, part) {
-            return Some(Event(i as u8));
-        }
-    }
-    None
+    let i = events
+        .iter()
+        .position(|row| text::names::named(row.name, part))?;
+    Some(Event(i as u8))
 }
 
 // ---- states, which have a name space for each controller
@@ -46,10 +42,8 @@ pub fn state_named(states: &[StateRow], controller: Controller, part: &[u8]) -> 
     requires { length states.now ≤ 64 }
     ensures { result ≡ found_state (first_index (state_named_lem controller part.now) states.now) (length states.now) }
 {
-    for i in 0..states.len() {
-        if state_has(&states[i], controller, part) {
-            return Some(State(i as u8));
-        }
-    }
-    None
+    let i = states
+        .iter()
+        .position(|row| state_has(row, controller, part))?;
+    Some(State(i as u8))
 }

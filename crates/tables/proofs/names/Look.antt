@@ -1,11 +1,11 @@
 -- Laws of looking up: one for every kind of row.
 use mathlib.Core.Path.{◌≡◌, refl, sym, ap, ◌∙◌}
-use mathlib.Core.Bool.{Bool, true, false, cond}
+use mathlib.Core.Bool.{Bool, true, false, not, cond}
 use mathlib.Core.List.{List, []}
-use Prim.Native.Nat.{ℕ, ◌≤◌, ◌<◌}
+use Prim.Native.Nat.{ℕ, suc, ◌+◌, ◌≤◌, ◌<◌}
 use native.Mathlib.Omega.{arith}
 use lib.ListN.{length, take, get_or, length-take}
-use lib.Seq.{get_or-take, take_all}
+use lib.Seq.{get_or-take}
 use lib.Dec.{ltb}
 use borrow.Author.Tests.{lt-ltb, le-ltb, ltb-true, ltb-false}
 use Rattle.text.specs.declared.Name.{Name}
@@ -16,8 +16,9 @@ use Rattle.tables.specs.declared.MessageRow.{MessageRow}
 use Rattle.tables.specs.declared.EventRow.{EventRow}
 use Rattle.tables.specs.declared.StateRow.{StateRow}
 use Rattle.text.specs.Parts.{first_index}
-use Rattle.text.proofs.Parts.{first-at, first-none, first-before, first_passes}
-use Rattle.std.specs.Prelude.{Some, None}
+use Rattle.text.proofs.Parts.{first-before, first_passes}
+use Rattle.std.specs.Prelude.{Option, Some, None, ◌∷◌}
+use Rattle.std.specs.List.{position_or_len}
 use Rattle.std.proofs.lemmas.Option.{none-some, same_Some}
 use Rattle.tables.specs.names.Names.{found}
 
@@ -55,24 +56,6 @@ module _ {A : Type 0} (p : A → Bool) (rows : List A) (n : ℕ) (d : A) where
           before = λ j g. ap p (sym (get_or-take n rows j d (omega arith))) ∙ first-before p (take n rows) d j g;
         }
 
--- ---- a search through all the rows
-
-module _ {A : Type 0} (p : A → Bool) (rows : List A) (d : A) {B : Type 0} (at : ℕ → B) where
-  all_rows : take (length rows) rows ≡ rows
-  all_rows = take_all (length rows) rows (omega arith)
-
-  -- it ends where a row passes
-  pub found_here : (i : ℕ) → First p rows (length rows) d i → Some (at i) ≡ found at (first_index p rows) (length rows)
-  found_here i h =
-      let e : first_index p rows ≡ i = ap (first_index p) (sym all_rows) ∙ first-at p rows (length rows) i d h.within (omega arith) h.before h.passes in
-      rw (e, lt-ltb i (length rows) h.within)
-
-  -- it ends with no row that passes
-  pub found_none : ((j : ℕ) → j < length rows → p (get_or rows j d) ≡ false) → None ≡ found at (first_index p rows) (length rows)
-  found_none h =
-      let e : first_index p rows ≡ length rows = ap (first_index p) (sym all_rows) ∙ first-none p rows (length rows) d (omega arith) h in
-      rw (e, le-ltb (length rows) (length rows) (omega arith))
-
 -- ---- what an answer tells
 
 module _ {A : Type 0} (at : ℕ → A) (i n : ℕ) where
@@ -89,3 +72,31 @@ module _ {A : Type 0} (at : ℕ → A) (i n : ℕ) where
       go : (t : Bool) → ltb i n ≡ t → n ≤ i
       go true q = absurd (none-some (at i) (sym e ∙ ap (λ (t : Bool). cond t (Some (at i)) None) q))
       go false q = ltb-false i n q
+
+-- ---- a search through all the rows, by the library's `position`
+
+first-position : {A : Type 0} (p : A → Bool) (rows : List A) → position_or_len p rows ≡ first_index p rows
+unfolding first_index
+first-position p [] = refl
+first-position p (x ∷ rows) = rw (first-position p rows) (turned (p x) (first_index p rows))
+  where
+    turned : (b : Bool) (n : ℕ) → cond (not b) (1 + n) 0 ≡ cond b 0 (suc n)
+    turned true n = refl
+    turned false n = omega arith
+
+abbrev pub found_place : ℕ → ℕ → Option ℕ
+found_place = found (λ i. i)
+
+module _ {A B : Type 0} (p : A → Bool) (rows : List A) (at : ℕ → B) (r : Option ℕ) (e : r ≡ found_place (position_or_len p rows) (length rows)) where
+  same : r ≡ found (λ i. i) (first_index p rows) (length rows)
+  same = e ∙ ap (λ (i : ℕ). found (λ j. j) i (length rows)) (first-position p rows)
+
+  -- it found a row
+  pub found_here : (i : ℕ) → r ≡ Some i → Some (at i) ≡ found at (first_index p rows) (length rows)
+  found_here i q =
+      let w = found_at (λ j. j) (first_index p rows) (length rows) i (sym same ∙ q) in
+      rw (lt-ltb (first_index p rows) (length rows) w.0, w.1)
+
+  -- it found none
+  pub found_none : r ≡ None → None ≡ found at (first_index p rows) (length rows)
+  found_none q = rw (le-ltb (first_index p rows) (length rows) (found_nothing (λ j. j) (first_index p rows) (length rows) (sym same ∙ q)))

@@ -1,21 +1,25 @@
 -- `tables::names::event_named` meets its contract.
-use mathlib.Core.Path.{sym, ◌∙◌}
-use native.Mathlib.Omega.{arith}
-use borrow.Author.Count.{below_more}
+use mathlib.Core.Path.{◌≡◌, ◌∙◌}
+use lib.ListN.{length}
+use Rattle.std.specs.List.{position_or_len}
+use Rattle.std.proofs.Common.{rules, tests}
+use Rattle.std.proofs.lemmas.Iterator.{YieldsList-from_slice}
+use Rattle.std.proofs.lemmas.Iterator.Search.{position_from_yields_List}
 use Rattle.tables.specs.names.Names.{event_named_lem}
-use Rattle.tables.proofs.names.Look.{blank_event, found_here, found_none}
+use Rattle.tables.proofs.names.Look.{found_place, found_here, found_none}
+use Rattle.tables.proofs.names.event_named.Goals.{After-position}
 use Rattle.tables.proofs.names.event_named.Goals as goal
 
-pub loop-i-init : goal.loop-i-init
-loop-i-init c = λ j h. absurd (omega arith)
+-- what the search found
+found : (c : After-position) → c.position.result ≡ found_place (position_or_len (event_named_lem c.args.part.now) c.args.events.now) (length c.args.events.now)
+found c =
+    position_from_yields_List (event_named_lem c.args.part.now) _ _ c.position.result c.position.ensures.ran
+    (YieldsList-from_slice c.args.events.now (cc)) (λ x b q k. search (rules, tests))
 
-pub returns-then-named : goal.returns-then-named
-returns-then-named c =
-    found_here (event_named_lem c.args.part.now) c.args.events.now blank_event (λ j. record { 0 = j }) c.loop-i.i
-    (record { within = omega arith; passes = sym c.named.ensures ∙ c.if-named.true; before = c.loop-i.invariant })
-
-pub loop-i-preserved : goal.loop-i-preserved
-loop-i-preserved c = below_more _ _ c.loop-i.invariant (sym c.named.ensures ∙ c.if-named.false)
+pub returns-in_err-i : goal.returns-in_err-i
+returns-in_err-i c =
+    c.from_residual.ensures
+    ∙ found_none (event_named_lem c.args.part.now) c.args.events.now (λ j. record { 0 = j }) c.position.result (found (goal.at.returns-in_err-i c).After-position) c.in_err-i.was
 
 pub returns : goal.returns
-returns c = found_none (event_named_lem c.args.part.now) c.args.events.now blank_event (λ j. record { 0 = j }) (λ j h. c.loop-i.invariant j (omega arith))
+returns c = found_here (event_named_lem c.args.part.now) c.args.events.now (λ j. record { 0 = j }) c.position.result (found (goal.at.returns c).After-position) c.in_ok-i.i c.in_ok-i.was
