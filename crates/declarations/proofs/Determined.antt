@@ -1,70 +1,42 @@
 -- Each contract of this crate leaves one answer.
 use Prim.Native.Nat.{ℕ}
 use mathlib.Core.Path.{◌≡◌, refl, sym, ◌∙◌}
-use mathlib.Core.List.{List}
+use mathlib.Core.List.{List, []}
+use native.Mathlib.Omega.{arith}
+use lib.ListN.{length, take}
+use lib.Seq.{take_all}
+use Rattle.std.proofs.lemmas.Result.{IfOk-at_ok}
 use Rattle.determined.specs.Determined.{Determines}
-use Rattle.text.specs.Parts.{split}
-use Rattle.lines.specs.Line.{message_of, event_of, state_of}
+use Rattle.text.specs.Line.{Line}
+use Rattle.papers.proofs.Refusals.{refusal-injective}
 use Rattle.tables.specs.declared.MessageRow.{MessageRow}
-use lib.ListN.{replicate}
-use Rattle.tables.specs.declared.Tables.{Tables}
-use Rattle.tables.specs.Tables.{no_message_row, no_event_row, no_state_row}
-use Rattle.papers.specs.declared.Refusal.{Refusal}
-use Rattle.lines.proofs.Reasons.{one_number}
-use Rattle.declarations.proofs.named_fields.Declares.{tables_of, rows_same}
-use Rattle.declarations.specs.declared.messages.MessageLine.{MessageLine}
-use Rattle.declarations.specs.messages.Told.{OnlyMessages, MessageTold}
 use Rattle.tables.specs.declared.EventRow.{EventRow}
-use Rattle.declarations.specs.declared.events.EventLine.{EventLine}
-use Rattle.declarations.specs.events.Told.{MessagesEvents, EventTold}
 use Rattle.tables.specs.declared.StateRow.{StateRow}
-use Rattle.declarations.specs.declared.states.StateLine.{StateLine}
-use Rattle.declarations.specs.states.Told.{States, StateTold}
+use Rattle.tables.specs.declared.Tables.{Tables}
+use Rattle.tables.proofs.Given.{given}
+use Rattle.declarations.specs.Told.{LineTold}
+use Rattle.declarations.specs.messages.Told.{MessageTold}
+use Rattle.declarations.specs.events.Told.{EventTold}
+use Rattle.declarations.specs.states.Told.{StateTold}
 
-pub message-line-determined : (k : ℕ) (line : List ℕ) (messages : List MessageRow) (count : ℕ) → Determines (MessageTold k line messages count)
-message-line-determined k line messages count r s p q =
-    same why (rows_same r.refusal.number s.refusal.number (one_number why) r.row s.row (message_of (split 9 line)) no_message_row p.row p.cleared q.row q.cleared)
-  where
-    t : Tables
-    t = tables_of messages count (replicate 8 no_event_row) 0 (replicate 64 no_state_row) 0
+all_rows : {Row : Type 0} (rows : List Row) → take (length rows) rows ≡ rows
+all_rows rows = take_all (length rows) rows (omega arith)
 
-    only : OnlyMessages t messages count
-    only = record { rows = refl; many = refl; no-event = refl; no-state = refl; no_cell = refl }
+-- behind some tables that were read so
+told-determined : {Row : Type 0} (ReadSo : Tables → Type 0) (row_of : Line → Row) (k : ℕ) (line : List ℕ) (t : Tables) → ReadSo t → Determines (LineTold ReadSo row_of k line)
+told-determined ReadSo row_of k line t o r s p q =
+    refusal-injective r s (sym (p.told t o) ∙ q.told t o) (λ x y e g. IfOk-at_ok _ e p.row ∙ sym (IfOk-at_ok _ g q.row))
 
-    why : r.refusal ≡ s.refusal
-    why = sym (p.told t only) ∙ q.told t only
+pub message-line-determined : (k : ℕ) (line : List ℕ) (messages : List MessageRow) → Determines (MessageTold k line messages)
+message-line-determined k line messages =
+    told-determined _ _ k line (given messages (length messages) [] 0 [] 0 [] 0)
+    (record { rows = all_rows messages; many = refl; no-event = refl; no-state = refl; no_cell = refl })
 
-    same : {a b : Refusal} {v w : MessageRow} → a ≡ b → v ≡ w → ◌≡◌ {A = MessageLine} (record { refusal = a; row = v }) (record { refusal = b; row = w })
-    same x y = cc
+pub event-line-determined : (k : ℕ) (line : List ℕ) (messages : List MessageRow) (events : List EventRow) → Determines (EventTold k line messages events)
+event-line-determined k line messages events =
+    told-determined _ _ k line (given messages (length messages) events (length events) [] 0 [] 0)
+    (record { messages_are = all_rows messages; messages_many = refl; rows = all_rows events; many = refl; no-state = refl; no_cell = refl })
 
-pub event-line-determined : (k : ℕ) (line : List ℕ) (messages : List MessageRow) (many : ℕ) (events : List EventRow) (count : ℕ) → Determines (EventTold k line messages many events count)
-event-line-determined k line messages many events count r s p q =
-    same why (rows_same r.refusal.number s.refusal.number (one_number why) r.row s.row (event_of (split 9 line)) no_event_row p.row p.cleared q.row q.cleared)
-  where
-    t : Tables
-    t = tables_of messages many events count (replicate 64 no_state_row) 0
-
-    both : MessagesEvents t messages many events count
-    both = record { messages_are = refl; messages_many = refl; rows = refl; many = refl; no-state = refl; no_cell = refl }
-
-    why : r.refusal ≡ s.refusal
-    why = sym (p.told t both) ∙ q.told t both
-
-    same : {a b : Refusal} {v w : EventRow} → a ≡ b → v ≡ w → ◌≡◌ {A = EventLine} (record { refusal = a; row = v }) (record { refusal = b; row = w })
-    same x y = cc
-
-pub state-line-determined : (k : ℕ) (line : List ℕ) (states : List StateRow) (count : ℕ) → Determines (StateTold k line states count)
-state-line-determined k line states count r s p q =
-    same why (rows_same r.refusal.number s.refusal.number (one_number why) r.row s.row (state_of (split 9 line)) no_state_row p.row p.cleared q.row q.cleared)
-  where
-    t : Tables
-    t = tables_of (replicate 64 no_message_row) 0 (replicate 8 no_event_row) 0 states count
-
-    all : States t states count
-    all = record { rows = refl; many = refl; no_cell = refl }
-
-    why : r.refusal ≡ s.refusal
-    why = sym (p.told t all) ∙ q.told t all
-
-    same : {a b : Refusal} {v w : StateRow} → a ≡ b → v ≡ w → ◌≡◌ {A = StateLine} (record { refusal = a; row = v }) (record { refusal = b; row = w })
-    same x y = cc
+pub state-line-determined : (k : ℕ) (line : List ℕ) (states : List StateRow) → Determines (StateTold k line states)
+state-line-determined k line states =
+    told-determined _ _ k line (given [] 0 [] 0 states (length states) [] 0) (record { rows = all_rows states; many = refl; no_cell = refl })

@@ -1,3 +1,4 @@
+pub mod Told
 pub mod named_fields
 pub mod messages
 pub mod events

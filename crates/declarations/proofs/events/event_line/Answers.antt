@@ -1,41 +1,46 @@
 -- `declarations::events::event_line` meets its contract.
 use native.Mathlib.Omega.{arith}
-use mathlib.Core.Path.{refl, sym, ◌∙◌}
-use borrow.Author.Tests.{le-leb, lt-leb}
-use Rattle.papers.specs.Fields.{first_bad_field}
-use Rattle.lines.proofs.Reasons.{reason, never}
+use mathlib.Core.Path.{refl, sym, ap, ◌∙◌}
+use mathlib.Core.Bool.{not}
+use Rattle.std.proofs.Common.{rules}
+use Rattle.text.specs.Name.{name_rule}
+use Rattle.lines.specs.Line.{event, event_of}
+use Rattle.lines.specs.shapes.Shapes.{event_shape_lem}
+use Rattle.lines.proofs.Sections.{an-event}
 use Rattle.lines.proofs.shapes.Shaped.{event-count}
-use Rattle.declarations.proofs.named_fields.Declares.{four-shape, four-name, four-twice, four-full, four-none}
-use Rattle.declarations.proofs.events.Rows.{either-message, either-event, event-row, event-refused, event-taken}
+use Rattle.declarations.proofs.Lines.{words-of, field-of, misshapen, misnamed, taken}
+use Rattle.declarations.proofs.ReadSo.{message-in, event-in, left-event}
 use Rattle.declarations.proofs.events.event_line.Goals as goal
+use Rattle.declarations.proofs.events.event_line.Goals.{then-is_some, else-is_some}
 
-pub returns-then-not-event_shape : goal.returns-then-not-event_shape
-unfolding first_bad_field
-returns-then-not-event_shape c = event-refused _ _ _ _ _ _ c.requires.1 _ (reason 4 0) (never 3) (four-shape _ _ _ _ _ _ (sym c.event_shape.ensures ∙ c.if-not-event_shape.true)) c.no_event.ensures
+pub returns-in_err-map_err : goal.returns-in_err-map_err
+unfolding event_shape_lem
+returns-in_err-map_err c =
+    let w = field-of event _ _ _ c.event_shape-shape.ensures c.args.nth _ _ (λ x q. search rules) c.in_err-map_err.ensures.cases in
+    misshapen event _ _ _ _ (an-event _ c.requires.0) _ _ (λ t. left-event t _ _ _) _ _ c.from_residual.ensures.1 w.0 w.1
 
-pub name_fits-requires : goal.name_fits-requires
-name_fits-requires c = let h = event-count _ _ c.requires.0 (sym c.event_shape.ensures ∙ c.if-not-event_shape.false) in (c.requires.0, omega arith)
+pub field-part-requires : goal.field-part-requires
+unfolding event_shape_lem
+field-part-requires c = let w = words-of event _ _ _ c.event_shape-shape.ensures _ c.in_ok-map_err.ensures.cases in omega (arith, event-count _ _ c.args.line.now.are w.0)
 
-pub returns-then-not-name_fits : goal.returns-then-not-name_fits
-returns-then-not-name_fits c = event-refused _ _ _ _ _ _ c.requires.1 _ (reason 6 2) (never 5) (four-name _ _ _ _ _ _ (sym c.event_shape.ensures ∙ c.if-not-event_shape.false) (sym c.name_fits.ensures ∙ c.if-not-name_fits.true)) c.no_event-then-not-name_fits.ensures
-
-pub message_declared-requires : goal.message_declared-requires
-message_declared-requires c = let h = event-count _ _ c.requires.0 (sym c.event_shape.ensures ∙ c.if-not-event_shape.false) in (c.requires.0, omega arith, c.requires.2)
-
-pub returns-then-message_declared : goal.returns-then-message_declared
-returns-then-message_declared c = event-refused _ _ _ _ _ _ c.requires.1 _ (reason 8 2) (never 7) (four-twice _ _ _ _ _ _ (sym c.event_shape.ensures ∙ c.if-not-event_shape.false) (sym c.name_fits.ensures ∙ c.if-not-name_fits.false) (either-message _ _ _ _ _ (sym c.message_declared.ensures ∙ c.if-message_declared.true))) c.no_event-then-message_declared.ensures
-
-pub event_declared-requires : goal.event_declared-requires
-event_declared-requires c = let h = event-count _ _ c.requires.0 (sym c.event_shape.ensures ∙ c.if-not-event_shape.false) in (c.requires.0, omega arith, c.requires.3)
-
-pub returns-then-event_declared : goal.returns-then-event_declared
-returns-then-event_declared c = event-refused _ _ _ _ _ _ c.requires.1 _ (reason 8 2) (never 7) (four-twice _ _ _ _ _ _ (sym c.event_shape.ensures ∙ c.if-not-event_shape.false) (sym c.name_fits.ensures ∙ c.if-not-name_fits.false) (either-event _ _ _ _ _ (sym c.message_declared.ensures ∙ c.if-message_declared.false) ∙ sym c.event_declared.ensures ∙ c.if-event_declared.true)) c.no_event-then-event_declared.ensures
-
-pub returns-then-count-ge-EVENTS : goal.returns-then-count-ge-EVENTS
-returns-then-count-ge-EVENTS c = event-refused _ _ _ _ _ _ c.requires.1 _ (reason 9 0) (never 8) (four-full _ _ _ _ _ _ (sym c.event_shape.ensures ∙ c.if-not-event_shape.false) (sym c.name_fits.ensures ∙ c.if-not-name_fits.false) (either-event _ _ _ _ _ (sym c.message_declared.ensures ∙ c.if-message_declared.false) ∙ sym c.event_declared.ensures ∙ c.if-event_declared.false) (le-leb 8 c.args.count (omega arith))) c.no_event-then-count-ge-EVENTS.ensures
-
-pub name_at-name-requires : goal.name_at-name-requires
-name_at-name-requires c = let h = event-count _ _ c.requires.0 (sym c.event_shape.ensures ∙ c.if-not-event_shape.false) in (c.requires.0, omega arith, (sym c.name_fits.ensures ∙ c.if-not-name_fits.false))
+pub returns-in_err-name : goal.returns-in_err-name
+unfolding event_shape_lem
+returns-in_err-name c =
+    let w = words-of event _ _ _ c.event_shape-shape.ensures _ c.in_ok-map_err.ensures.cases in
+    let m = message-in c.field-part.ensures _ c.message_named.ensures c.is_some.ensures in
+    misnamed event _ _ _ _ (an-event _ c.requires.0) _ _ (λ t. left-event t _ c.args.messages.now c.args.events.now) {g = c.if-is_some.declared} (elim c.if-is_some.branch [
+      | then-is_some b ↦ rw (sym m, b.if-is_some.true) (b.declared-is ∙ b.if-is_some.true)
+      | else-is_some b ↦ rw (sym m, b.if-is_some.false) (b.declared-is ∙ event-in c.field-part.ensures _ b.event_named.ensures b.is_some-declared.ensures)
+    ]) (ap (λ x. not (name_rule x)) c.field-part.ensures) w.0 _ _
+    c.from_residual-in_err-name.ensures.1 c.in_err-name.ensures
 
 pub returns : goal.returns
-returns c = event-taken _ _ _ _ _ _ c.requires.1 _ (four-none _ _ _ _ _ _ (sym c.event_shape.ensures ∙ c.if-not-event_shape.false) (sym c.name_fits.ensures ∙ c.if-not-name_fits.false) (either-event _ _ _ _ _ (sym c.message_declared.ensures ∙ c.if-message_declared.false) ∙ sym c.event_declared.ensures ∙ c.if-event_declared.false) (lt-leb 8 c.args.count (omega arith))) refl (event-row _ _ c.name_at-name.ensures)
+unfolding event_shape_lem event_of
+returns c =
+    let w = words-of event _ _ _ c.event_shape-shape.ensures _ c.in_ok-map_err.ensures.cases in
+    let m = message-in c.field-part.ensures _ c.message_named.ensures c.is_some.ensures in
+    taken event _ _ _ _ (an-event _ c.requires.0) _ _ (λ t. left-event t _ c.args.messages.now c.args.events.now) {g = c.if-is_some.declared} (elim c.if-is_some.branch [
+      | then-is_some b ↦ rw (sym m, b.if-is_some.true) (b.declared-is ∙ b.if-is_some.true)
+      | else-is_some b ↦ rw (sym m, b.if-is_some.false) (b.declared-is ∙ event-in c.field-part.ensures _ b.event_named.ensures b.is_some-declared.ensures)
+    ]) (ap (λ x. not (name_rule x)) c.field-part.ensures) w.0 _ _ c.in_ok-name.ensures
+    (rw (c.in_ok-name.ensures.name, c.field-part.ensures) refl)

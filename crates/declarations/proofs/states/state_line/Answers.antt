@@ -1,17 +1,37 @@
 -- `declarations::states::state_line` meets its contract.
-use mathlib.Core.Path.{ap, ◌∙◌}
-use Rattle.lines.proofs.Reasons.{reason, never}
-use Rattle.lines.proofs.shapes.Shaped.{state-is, state-wrong}
-use Rattle.declarations.proofs.named_fields.Declares.{four-shape}
-use Rattle.declarations.proofs.states.Rows.{state-refused}
+use native.Mathlib.Omega.{arith}
+use mathlib.Core.Path.{refl, ap}
+use mathlib.Core.Bool.{not}
+use Rattle.std.proofs.Common.{rules}
+use Rattle.text.specs.Name.{name_rule}
+use Rattle.lines.specs.Line.{state, state_of}
+use Rattle.lines.specs.shapes.Shapes.{state_shape_lem}
+use Rattle.lines.proofs.Sections.{a-state}
+use Rattle.lines.proofs.shapes.Shaped.{state-count}
+use Rattle.declarations.proofs.Lines.{words-of, field-of, misshapen, misnamed, taken}
+use Rattle.declarations.proofs.ReadSo.{state-in, left-state}
 use Rattle.declarations.proofs.states.state_line.Goals as goal
 
-pub named_state-requires : goal.named_state-requires
-named_state-requires c =
-    let w = state-is _ _ _ c.in-Are.ensures in
-    (c.requires.0, c.requires.1, c.requires.2, w.0, w.1.0, w.1.1)
+pub returns-in_err-controller : goal.returns-in_err-controller
+unfolding state_shape_lem
+returns-in_err-controller c =
+    let w = field-of state _ _ _ c.state_shape-shape.ensures c.args.nth _ _ (λ x q. search rules) c.in_err-controller.ensures.cases in
+    misshapen state _ _ _ _ (a-state _ c.requires.0) _ _ (λ t. left-state t _ _) _ _ c.from_residual.ensures.1 w.0 w.1
 
-pub returns-in-Wrong : goal.returns-in-Wrong
-returns-in-Wrong c =
-    let w = state-wrong _ _ c.in-Wrong.ensures in
-    state-refused _ _ _ _ c.requires.1 _ (reason 4 _) (never 3) (ap (reason 4) w.1 ∙ four-shape _ _ _ _ _ _ w.0) c.no_state.ensures
+pub field-part-requires : goal.field-part-requires
+unfolding state_shape_lem
+field-part-requires c = let w = words-of state _ _ _ c.state_shape-shape.ensures _ c.in_ok-controller.ensures.cases in omega (arith, state-count _ _ c.args.line.now.are w.0)
+
+pub returns-in_err-name : goal.returns-in_err-name
+unfolding state_shape_lem
+returns-in_err-name c =
+    let w = words-of state _ _ _ c.state_shape-shape.ensures _ c.in_ok-controller.ensures.cases in
+    let d = state-in c.field-part.ensures _ c.state_named.ensures c.is_some-declared.ensures (ap (λ k. k.0) w.1) in
+    misnamed state _ _ _ _ (a-state _ c.requires.0) _ _ (λ t. left-state t _ _) d (ap (λ x. not (name_rule x)) c.field-part.ensures) w.0 _ _ c.from_residual-in_err-name.ensures.1 c.in_err-name.ensures
+
+pub returns : goal.returns
+unfolding state_shape_lem state_of
+returns c =
+    let w = words-of state _ _ _ c.state_shape-shape.ensures _ c.in_ok-controller.ensures.cases in
+    let d = state-in c.field-part.ensures _ c.state_named.ensures c.is_some-declared.ensures (ap (λ k. k.0) w.1) in
+    taken state _ _ _ _ (a-state _ c.requires.0) _ _ (λ t. left-state t _ _) d (ap (λ x. not (name_rule x)) c.field-part.ensures) w.0 _ _ c.in_ok-name.ensures (rw (c.in_ok-name.ensures.name, c.field-part.ensures, ap (λ k. k.0) w.1, ap (λ k. k.1) w.1) refl)

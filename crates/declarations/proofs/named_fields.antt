@@ -1,2 +1,0 @@
-pub mod Declares
-pub mod Named
