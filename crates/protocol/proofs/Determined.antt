@@ -5,7 +5,6 @@ use mathlib.Core.List.{List}
 use Rattle.std.specs.Prelude.{Result, Ok, Err}
 use Rattle.determined.specs.Determined.{Determines}
 use Rattle.papers.specs.declared.refused.Refused.{Refused}
-use Rattle.papers.specs.refused.Refused.{told_refusal}
 use Rattle.papers.proofs.Refusals.{told-some, told-injective}
 use Rattle.tables.specs.declared.Tables.{Tables}
 use Rattle.protocol.specs.whole.Whole.{Reading, reading_of}

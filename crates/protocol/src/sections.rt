@@ -5,7 +5,7 @@ ghost use Rattle.lines.specs.Line.{message, event, state, cell, says_of};
 ghost use Rattle.lines.specs.Checks.{later_read};
 ghost use Rattle.protocol.specs.whole.Kept.{Kept};
 ghost use Rattle.protocol.specs.sections.Sections.{section_lem, Placed, Stage, AllRead};
-ghost use Rattle.protocol.specs.sections.Told.{LineTold, SectionTold, EndTold};
+ghost use Rattle.protocol.specs.sections.Told.{LineStored, SectionTold, EndTold};
 
 use papers::records::Record;
 use papers::refused::Refused;
@@ -45,7 +45,7 @@ fn read_message(line: &Record, nth: usize, t: &mut Tables) -> Result<(), Refused
     requires word { says_of message (split 9 line.now.bytes.now) ≡ true }
     requires kept { Kept t.old }
     requires order { later_read message t.old ≡ false }
-    ensures { LineTold message nth line.now.bytes.now t.old t.new result }
+    ensures { LineStored message nth line.now.bytes.now t.old t.new result }
 {
     let row = declarations::messages::message_line(line, nth, t.messages())?;
     t.messages[t.message_count] = row;
@@ -57,7 +57,7 @@ fn read_event(line: &Record, nth: usize, t: &mut Tables) -> Result<(), Refused>
     requires word { says_of event (split 9 line.now.bytes.now) ≡ true }
     requires kept { Kept t.old }
     requires order { later_read event t.old ≡ false }
-    ensures { LineTold event nth line.now.bytes.now t.old t.new result }
+    ensures { LineStored event nth line.now.bytes.now t.old t.new result }
 {
     let row = declarations::events::event_line(line, nth, t.messages(), t.events())?;
     t.events[t.event_count] = row;
@@ -69,7 +69,7 @@ fn read_state(line: &Record, nth: usize, t: &mut Tables) -> Result<(), Refused>
     requires word { says_of state (split 9 line.now.bytes.now) ≡ true }
     requires kept { Kept t.old }
     requires order { later_read state t.old ≡ false }
-    ensures { LineTold state nth line.now.bytes.now t.old t.new result }
+    ensures { LineStored state nth line.now.bytes.now t.old t.new result }
 {
     let row = declarations::states::state_line(line, nth, t.states())?;
     t.states[t.state_count] = row;
@@ -80,7 +80,7 @@ fn read_state(line: &Record, nth: usize, t: &mut Tables) -> Result<(), Refused>
 fn read_cell(line: &Record, nth: usize, t: &mut Tables) -> Result<(), Refused>
     requires word { says_of cell (split 9 line.now.bytes.now) ≡ true }
     requires kept { Kept t.old }
-    ensures { LineTold cell nth line.now.bytes.now t.old t.new result }
+    ensures { LineStored cell nth line.now.bytes.now t.old t.new result }
 {
     let row = cells::cell_line(line, nth, t)?;
     t.cells[t.cell_count] = row;
@@ -92,7 +92,7 @@ fn read_line(section: Section, line: &Record, nth: usize, t: &mut Tables) -> Res
     requires word { says_of (section_lem section) (split 9 line.now.bytes.now) ≡ true }
     requires kept { Kept t.old }
     requires order { later_read (section_lem section) t.old ≡ false }
-    ensures { LineTold (section_lem section) nth line.now.bytes.now t.old t.new result }
+    ensures { LineStored (section_lem section) nth line.now.bytes.now t.old t.new result }
 {
     match section {
         Section::Message => read_message(line, nth, t),

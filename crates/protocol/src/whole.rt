@@ -16,7 +16,8 @@ pub(crate) fn finished(t: &Tables) -> Result<(), Refused>
     if messages == 0 {
         return Err(Refused::whole(Reason::NoMessage, 0));
     }
-    if let Some(i) = table_rows::entries::no_entry(t) {
+    let i = table_rows::entries::no_entry(*t);
+    if i < t.cell_count {
         let line = 2 + messages + t.event_count + t.state_count + i;
         return Err(Refused::whole(Reason::NoEntry, line));
     }

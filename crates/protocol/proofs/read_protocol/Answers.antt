@@ -9,7 +9,6 @@ use Rattle.papers.specs.declared.Refusal.{Refusal}
 use Rattle.papers.specs.Checks.{none}
 use Rattle.papers.specs.refused.Refused.{told_refusal}
 use Rattle.papers.proofs.Refusals.{told-some}
-use Rattle.tables.specs.Tables.{cleared_tables}
 use Rattle.protocol.specs.Reading.{read_protocol_lem}
 use Rattle.protocol.specs.sections.Lines.{read_lines}
 use Rattle.protocol.specs.whole.Whole.{accepted, unless, whole_refusal}

@@ -24,7 +24,7 @@ use Rattle.lines.proofs.Sections.{a-message, an-event, a-state, a-cell}
 use Rattle.protocol.specs.declared.sections.Section.{Section as CodeSection}
 use Rattle.protocol.specs.declared.sections.Section.TheVariants.{Message, Event, State, Cell}
 use Rattle.protocol.specs.declared.sections.LineStart.{LineStart}
-use Rattle.protocol.specs.sections.Told.{LineTold, Came}
+use Rattle.protocol.specs.sections.Told.{LineStored, Came}
 use Rattle.protocol.proofs.sections.Leaving.{Leaves, leave}
 use mathlib.Core.Bool.{true}
 
@@ -79,7 +79,7 @@ stage-on Cell text at next t f g = (
 -- the line is stored
 pub going-on : (c : CodeSection) (text : List ℕ) (from from-line : ℕ) (t₀ : Tables) (at line : ℕ) (t u : Tables)
     → Going (section_lem c) text from from-line t₀ at line t → at < length text → says_of (section_lem c) (split 9 (line_at text at)) ≡ true
-    → LineTold (section_lem c) line (line_at text at) t u (Ok tt)
+    → LineStored (section_lem c) line (line_at text at) t u (Ok tt)
     → Going (section_lem c) text from from-line t₀ (place 10 text at (length text) + 1) (line + 1) u
 going-on c text from from-line t₀ at line t u g h w r =
     let s = section_lem c in

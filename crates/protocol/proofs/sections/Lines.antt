@@ -1,11 +1,11 @@
 -- The next line of a text, as the code tells of it.
 use Prim.Native.Nat.{ℕ, ◌+◌, ◌≤◌, ◌<◌}
-use mathlib.Core.Path.{◌≡◌, refl, sym, ap, subst, ◌∙◌}
+use mathlib.Core.Path.{◌≡◌, refl, ap, ◌∙◌}
 use mathlib.Core.Bool.{Bool, true, false}
 use mathlib.Core.List.{List}
 use native.Mathlib.Omega.{arith}
 use lib.ListN.{length, drop}
-use Rattle.text.specs.Parts.{part, place, split, lines}
+use Rattle.text.specs.Parts.{part, split, lines}
 use Rattle.text.specs.Words.{cell_word}
 use Rattle.text.specs.Line.{says}
 use Rattle.papers.specs.declared.Refusal.{Refusal}

@@ -1,6 +1,6 @@
 -- One line of each section, stored behind what was read before it.
 use Prim.Native.Nat.{ℕ, ◌+◌, ◌<◌}
-use mathlib.Core.Path.{◌≡◌, refl, sym, ap, subst, ◌∙◌}
+use mathlib.Core.Path.{◌≡◌, refl, sym, ap, subst}
 use mathlib.Core.Bool.{true, false}
 use mathlib.Core.List.{List}
 use native.Mathlib.Omega.{arith}
@@ -27,7 +27,7 @@ use Rattle.protocol.specs.declared.sections.Section.{Section as CodeSection}
 use Rattle.protocol.specs.declared.sections.Section.TheVariants.{Message, Event, State, Cell as OfCell}
 use Rattle.protocol.specs.whole.Kept.{Kept}
 use Rattle.protocol.specs.sections.Sections.{section_lem}
-use Rattle.protocol.specs.sections.Told.{LineTold}
+use Rattle.protocol.specs.sections.Told.{LineStored}
 use Rattle.protocol.proofs.sections.Going.{of_section}
 use Rattle.protocol.proofs.sections.Passed.{Passed, line-passed}
 use Rattle.protocol.proofs.sections.Kept.{kept-message, kept-event, kept-state, kept-cell}
@@ -50,7 +50,7 @@ module _ (k : ℕ) (line : List ℕ) (t : Tables) (kept : Kept t) where
       pub message-room : t.message_count < 64
       message-room = omega (arith, leb-false 64 t.message_count (passed Message w (m.told t only)).room)
 
-      pub message-stored : LineTold message k line t (with_message t row) (Ok tt)
+      pub message-stored : LineStored message k line t (with_message t row) (Ok tt)
       message-stored = record { told = m.told t only; stored = (ap (with_message t) m.row, kept-message t kept row message-room) }
 
   -- ---- an event
@@ -67,7 +67,7 @@ module _ (k : ℕ) (line : List ℕ) (t : Tables) (kept : Kept t) where
       pub event-room : t.event_count < 8
       event-room = omega (arith, leb-false 8 t.event_count (passed Event w (m.told t messages-events)).room)
 
-      pub event-stored : LineTold event k line t (with_event t row) (Ok tt)
+      pub event-stored : LineStored event k line t (with_event t row) (Ok tt)
       event-stored = record { told = m.told t messages-events; stored = (ap (with_event t) m.row, kept-event t kept row event-room) }
 
   -- ---- a state
@@ -83,7 +83,7 @@ module _ (k : ℕ) (line : List ℕ) (t : Tables) (kept : Kept t) where
       pub state-room : t.state_count < 64
       state-room = omega (arith, leb-false 64 t.state_count (passed State w (m.told t states)).room)
 
-      pub state-stored : LineTold state k line t (with_state t row) (Ok tt)
+      pub state-stored : LineStored state k line t (with_state t row) (Ok tt)
       state-stored = record { told = m.told t states; stored = (ap (with_state t) m.row, kept-state t kept row state-room) }
 
   -- ---- a cell
@@ -92,5 +92,5 @@ module _ (k : ℕ) (line : List ℕ) (t : Tables) (kept : Kept t) where
     pub cell_room : t.cell_count < 512
     cell_room = omega (arith, leb-false 512 t.cell_count (passed OfCell w m.told).room)
 
-    pub cell_stored : LineTold cell k line t (with_cell t row) (Ok tt)
+    pub cell_stored : LineStored cell k line t (with_cell t row) (Ok tt)
     cell_stored = record { told = m.told; stored = (ap (with_cell t) m.cell, kept-cell t kept row cell_room (cell-ok k line t row w m)) }

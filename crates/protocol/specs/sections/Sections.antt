@@ -5,7 +5,7 @@ use Rattle.papers.specs.Lined.{Lined}
 use Rattle.protocol.specs.declared.sections.Section.{Section as CodeSection}
 use Rattle.protocol.specs.declared.sections.Section.TheVariants.{Message, Event, State, Cell}
 use Rattle.tables.specs.declared.Tables.{Tables}
-use Rattle.lines.specs.Line.{Section, message, event, state, cell, unknown, section_of, says_of}
+use Rattle.lines.specs.Line.{Section, message, event, state, cell, unknown, section_of}
 use Rattle.lines.specs.Checks.{later_read}
 
 -- A line, or the end, of a text that is not too big stands at the place `at`. `line` is at most two more than the place, so it can be counted on.

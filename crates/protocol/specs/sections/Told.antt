@@ -13,7 +13,7 @@ use Rattle.protocol.specs.sections.Lines.{stored_in, read_lines}
 use Rattle.protocol.specs.sections.Sections.{Placed, StageAfter}
 
 -- Line k, a record of section s, after t₀: how it is refused, and the tables after it.
-pub record LineTold (s : Section) (k : ℕ) (line : List ℕ) (t₀ t : Tables) (r : Result ⊤ Refused) : Type 0 where
+pub record LineStored (s : Section) (k : ℕ) (line : List ℕ) (t₀ t : Tables) (r : Result ⊤ Refused) : Type 0 where
   pub told : Refuses t₀ k line (refusal_of r)
   pub stored : IfOk r (λ _. (t ≡ stored_in s t₀ (split 9 line)) × Kept t)
 

@@ -1,6 +1,5 @@
 -- `protocol::sections::ended` meets its contract.
-use mathlib.Core.Path.{◌≡◌, ap, subst, ◌∙◌}
-use mathlib.Core.Bool.{false}
+use mathlib.Core.Path.{ap, subst, ◌∙◌}
 use mathlib.Core.List.{List}
 use Prim.Native.Nat.{ℕ}
 use Rattle.text.specs.Parts.{split}

@@ -1,10 +1,9 @@
 -- `protocol::sections::read_section` meets its contract.
-use Prim.Native.Nat.{ℕ, ◌+◌, ◌<◌}
-use mathlib.Core.Path.{◌≡◌, refl, sym, ap, subst, ◌∙◌}
+use Prim.Native.Nat.{ℕ, ◌+◌}
+use mathlib.Core.Path.{◌≡◌, refl, sym, subst, ◌∙◌}
 use mathlib.Core.Bool.{true, false}
 use mathlib.Core.List.{List}
 use native.Mathlib.Omega.{arith}
-use lib.ListN.{length}
 use Rattle.std.specs.Prelude.{Ok}
 use Rattle.std.proofs.lemmas.Result.{err_from_is_err_and}
 use Rattle.text.specs.Parts.{split}
@@ -13,7 +12,7 @@ use Rattle.papers.proofs.Refusals.{told-some}
 use Rattle.lines.specs.Line.{says_of}
 use Rattle.lines.specs.Told.{Refuses}
 use Rattle.protocol.specs.sections.Sections.{section_lem, line_at}
-use Rattle.protocol.specs.sections.Told.{LineTold}
+use Rattle.protocol.specs.sections.Told.{LineStored}
 use Rattle.protocol.proofs.sections.Going.{Going, going-bad, going-on, going-out}
 use Rattle.protocol.proofs.sections.Leaving.{at-end, no-later}
 use Rattle.protocol.proofs.sections.Lines.{Room, room, the-line, not-of}
@@ -70,8 +69,8 @@ loop-here-preserved c =
     let same = the-line a.text.now l.here.at n.result n.ensures in
     let word : says_of s (split 9 (line_at a.text.now l.here.at)) ≡ true =
     subst (λ (b : List ℕ). says_of s (split 9 b) ≡ true) same (sym c.is_of.ensures ∙ c.if-not-is_of.false) in
-    let told : LineTold s l.here.line (line_at a.text.now l.here.at) l.t c.read_line.new.t (Ok tt) =
-    subst (λ (b : List ℕ). LineTold s l.here.line b l.t c.read_line.new.t (Ok tt)) same c.in_ok-read_line.ensures in
+    let told : LineStored s l.here.line (line_at a.text.now l.here.at) l.t c.read_line.new.t (Ok tt) =
+    subst (λ (b : List ℕ). LineStored s l.here.line b l.t c.read_line.new.t (Ok tt)) same c.in_ok-read_line.ensures in
     subst (λ (k : ℕ). Going s a.text.now a.from.at a.from.line a.t.now (k + 1) (l.here.line + 1) c.read_line.new.t) (sym n.ensures.ends)
     (going-on a.section a.text.now a.from.at a.from.line a.t.now l.here.at l.here.line l.t c.read_line.new.t l.invariant c.loop-here-test.true word told)
 
