@@ -11,9 +11,9 @@ use Rattle.rules.proofs.Promises.{shown-is-real}
 use Rattle.tables.specs.declared.Tables.{Tables}
 use Rattle.tables.specs.Cells.{relations_of_tables}
 use Rattle.answers.specs.declared.Answer.{Answer}
-use Rattle.protocol.specs.declared.whole.Reading.{Reading}
+use Rattle.protocol.specs.whole.Whole.{Reading}
 use Rattle.protocol.specs.Reading.{read_protocol_lem}
-use Rattle.mapping.specs.declared.Mapped.{Mapped}
+use Rattle.mapping.specs.Mapped.{Mapped}
 use Rattle.answers.specs.Answers.{refused_at_lem, Listed}
 use Rattle.plan_listing.specs.PlanText.{first_messages}
 use Rattle.judge_listing.specs.fit.FitText.{fit_text}

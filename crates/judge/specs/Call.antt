@@ -7,7 +7,7 @@ use Rattle.tables.specs.declared.Tables.{Tables}
 use Rattle.tables.specs.Tables.{messages_of_lem}
 use Rattle.tables.specs.Cells.{relations_of_tables}
 use Rattle.protocol.specs.Reading.{read_protocol_lem}
-use Rattle.mapping.specs.declared.Mapped.{Mapped}
+use Rattle.mapping.specs.Mapped.{Mapped}
 use Rattle.mapping.specs.Reading.{read_mapping_lem}
 use Rattle.answers.specs.declared.Answer.{Answer}
 use Rattle.answers.specs.Answers.{Refused, Listed}

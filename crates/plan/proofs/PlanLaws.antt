@@ -7,7 +7,7 @@ use native.Mathlib.Omega.{arith}
 use lib.ListN.{take}
 use Rattle.tables.specs.declared.Tables.{Tables}
 use Rattle.tables.specs.Cells.{relations_of_tables}
-use Rattle.protocol.specs.declared.whole.Reading.{Reading}
+use Rattle.protocol.specs.whole.Whole.{Reading}
 use Rattle.protocol.specs.Reading.{read_protocol_lem}
 use Rattle.answers.specs.declared.Answer.{Answer}
 use Rattle.answers.specs.Answers.{refused_at_lem, Listed}

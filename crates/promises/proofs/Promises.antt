@@ -19,7 +19,7 @@ use Rattle.tables.specs.Cells.{relations_of_tables}
 use Rattle.protocol.specs.Reading.{read_protocol_lem}
 use Rattle.reading_laws.specs.protocols.Promises.{AcceptedReading}
 use Rattle.reading_laws.proofs.protocols.Accepted.{accepted-kept}
-use Rattle.mapping.specs.declared.Mapped.{Mapped}
+use Rattle.mapping.specs.Mapped.{Mapped}
 use Rattle.mapping.specs.Reading.{maps_accepted}
 use Rattle.mapping.specs.Headers.{Header, header1, header2}
 use Rattle.mapping.specs.Text.{mapping_text, Writable}

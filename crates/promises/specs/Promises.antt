@@ -6,7 +6,7 @@ use Rattle.tables.specs.declared.Tables.{Tables}
 use Rattle.tables.specs.Tables.{messages_of_lem}
 use Rattle.tables.specs.Cells.{relations_of_tables}
 use Rattle.protocol.specs.Reading.{read_protocol_lem}
-use Rattle.mapping.specs.declared.Mapped.{Mapped}
+use Rattle.mapping.specs.Mapped.{Mapped}
 use Rattle.mapping.specs.Headers.{Header, header1, header2}
 use Rattle.mapping.specs.Text.{mapping_text}
 use Rattle.answers.specs.declared.Answer.{Answer}

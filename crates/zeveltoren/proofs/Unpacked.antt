@@ -5,7 +5,7 @@ use mathlib.Core.List.{List}
 use native.Mathlib.Omega.{arith}
 use Rattle.relations.specs.answer.Packed.{RelationsUnpacked}
 use Rattle.relations.proofs.Calls.{call-small, unpack-relations}
-use Rattle.protocol.specs.declared.whole.Reading.{Reading}
+use Rattle.protocol.specs.whole.Whole.{Reading}
 use Rattle.protocol.specs.Reading.{read_protocol_lem}
 use Rattle.reading_laws.proofs.bounds.Bounds.{protocol-low}
 use Rattle.answers.specs.declared.Answer.{Answer}

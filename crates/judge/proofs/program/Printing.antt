@@ -12,7 +12,7 @@ use Rattle.text.specs.Written.{Wrote}
 use Rattle.tables.specs.declared.Tables.{Tables}
 use Rattle.tables.specs.Tables.{messages_of_lem}
 use Rattle.protocol.specs.Reading.{read_protocol_lem}
-use Rattle.mapping.specs.declared.Mapped.{Mapped}
+use Rattle.mapping.specs.Mapped.{Mapped}
 use Rattle.reading_laws.specs.bounds.Bounds.{Low}
 use Rattle.reading_laws.proofs.bounds.Bounds.{protocol-low, mapping-low}
 use Rattle.papers.specs.declared.Refusal.{Refusal}

@@ -23,12 +23,12 @@ use Rattle.tables.specs.Cells.{cells_of, transient_of, as_rule_cell}
 use Rattle.text.specs.Line.{Line, field, says}
 use Rattle.lines.specs.Line.{Section, message, event, state, cell, unknown, section_of}
 use Rattle.lines.specs.Checks.{section_checks, line_checks, line_refusal}
-use Rattle.mapping.specs.declared.Mapped.{Mapped}
+use Rattle.mapping.specs.Mapped.{Mapped}
 use Rattle.mapping.specs.Headers.{header_of}
 use Rattle.mapping.specs.Reading.{maps_unless, end_of, read_maps, read_mapping_lem}
 use Rattle.mapping.specs.networks.Networks.{network_of_lem}
 use Rattle.mapping.specs.lines.Line.{match_field, map_checks, map_refusal}
-use Rattle.protocol.specs.declared.whole.Reading.{Reading}
+use Rattle.protocol.specs.whole.Whole.{Reading}
 use Rattle.protocol.specs.sections.Lines.{read_lines, stored_in, stored}
 use Rattle.protocol.specs.Reading.{read_protocol_lem}
 use Rattle.protocol.specs.whole.Whole.{unless, accepted, whole_checks, whole_refusal, no_entry_at, has_no_entry}

@@ -19,7 +19,7 @@ use Rattle.tables.specs.Tables.{no_message_row, cleared_tables, with_message, wi
 use Rattle.text.specs.Line.{Line, field}
 use Rattle.lines.specs.Line.{Section, message, event, state, cell, unknown, section_of, message_of}
 use Rattle.lines.specs.Checks.{bad_name, full, line_refusal}
-use Rattle.protocol.specs.declared.whole.Reading.{Reading}
+use Rattle.protocol.specs.whole.Whole.{Reading}
 use Rattle.protocol.specs.sections.Lines.{read_lines, stored_in, stored}
 use Rattle.protocol.specs.Reading.{read_protocol_lem}
 use Rattle.protocol.specs.whole.Whole.{accepted, whole_refusal}

@@ -20,7 +20,7 @@ use Rattle.papers.proofs.Checks.{first-given, first-passed, only-given, passed-b
 use Rattle.papers.proofs.OpeningLaws.{opening-rows}
 use Rattle.tables.specs.declared.MessageRow.{MessageRow}
 use Rattle.tables.proofs.AllCells.{get_or-zeros}
-use Rattle.mapping.specs.declared.Mapped.{Mapped}
+use Rattle.mapping.specs.Mapped.{Mapped}
 use Rattle.text.specs.Line.{field, says}
 use Rattle.lines.proofs.Both.{and_left}
 use Rattle.lines.proofs.FieldTold.{first-fields}

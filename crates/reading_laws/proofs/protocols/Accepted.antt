@@ -13,7 +13,7 @@ use Rattle.tables.specs.declared.Tables.{Tables}
 use Rattle.tables.specs.Cells.{cells_of, transient_of, TablesOk}
 use Rattle.tables.specs.Relations.{cell_at}
 use Rattle.tables.proofs.InRange.{relations-accepted}
-use Rattle.protocol.specs.declared.whole.Reading.{Reading}
+use Rattle.protocol.specs.whole.Whole.{Reading}
 use Rattle.protocol.specs.whole.Whole.{no_entry_at, cell_line_lem, whole_refusal}
 use Rattle.protocol.specs.whole.Kept.{Kept}
 use Rattle.protocol.specs.Reading.{read_protocol_lem}

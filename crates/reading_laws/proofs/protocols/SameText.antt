@@ -18,7 +18,7 @@ use Rattle.tables.specs.Tables.{cleared_tables}
 use Rattle.text.specs.Line.{Line}
 use Rattle.lines.specs.Line.{section_of}
 use Rattle.lines.specs.Checks.{line_refusal}
-use Rattle.protocol.specs.declared.whole.Reading.{Reading}
+use Rattle.protocol.specs.whole.Whole.{Reading}
 use Rattle.protocol.specs.whole.Whole.{refused, accepted, unless, whole_refusal}
 use Rattle.protocol.specs.sections.Lines.{stored, read_lines}
 use Rattle.protocol.specs.Reading.{read_protocol_lem}

@@ -24,7 +24,7 @@ use Rattle.rules.proofs.Stricter.{old-entries-remain}
 use Rattle.text.specs.Line.{Line}
 use Rattle.lines.specs.Line.{section_of}
 use Rattle.lines.specs.Checks.{shaped, line_checks, line_refusal}
-use Rattle.protocol.specs.declared.whole.Reading.{Reading}
+use Rattle.protocol.specs.whole.Whole.{Reading}
 use Rattle.protocol.specs.whole.Whole.{refused, accepted, no_entry_at, whole_checks, whole_refusal}
 use Rattle.protocol.specs.sections.Lines.{stored, read_lines}
 use Rattle.protocol.specs.Reading.{read_protocol_lem}

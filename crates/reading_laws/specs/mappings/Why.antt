@@ -4,7 +4,7 @@ use Rattle.text.specs.Parts.{split, lines}
 use Rattle.papers.specs.Checks.{refusal, ToldBy}
 use Rattle.papers.specs.Opening.{opening_checks, opening_of, Opens}
 use Rattle.tables.specs.declared.MessageRow.{MessageRow}
-use Rattle.mapping.specs.declared.Mapped.{Mapped}
+use Rattle.mapping.specs.Mapped.{Mapped}
 use Rattle.mapping.specs.networks.Networks.{network_of_lem}
 use Rattle.text.specs.Line.{Line, field}
 use Rattle.mapping.specs.lines.Line.{map_checks, map_refusal}

@@ -14,7 +14,7 @@ use Rattle.tables.specs.Relations.{cell_at, FirstNoEntry}
 use Rattle.text.specs.Line.{Line}
 use Rattle.lines.specs.Line.{Section, section_of}
 use Rattle.lines.specs.Checks.{shaped, shape_field, later_read, bad_name, name_field, is_not_known, unknown_field, twice, full, stall_in_stable, conflict, line_checks, line_refusal}
-use Rattle.protocol.specs.declared.whole.Reading.{Reading}
+use Rattle.protocol.specs.whole.Whole.{Reading}
 use Rattle.protocol.specs.whole.Whole.{refused, accepted, cell_line_lem, whole_checks, whole_refusal}
 use Rattle.protocol.specs.sections.Lines.{stored}
 use Rattle.protocol.specs.Reading.{read_protocol_lem}
