@@ -1,8 +1,8 @@
 -- The numbers of a cell that is not refused are those of declared messages, events and states.
 use Prim.Native.Nat.{ℕ, ◌-◌, ◌≤◌, ◌<◌}
-use mathlib.Core.Path.{◌≡◌, refl, sym, ap, subst, ◌∙◌}
+use mathlib.Core.Path.{◌≡◌, refl, sym, ap, ◌∙◌}
 use mathlib.Core.Logic.{⊎_elim}
-use mathlib.Core.Bool.{Bool, true, false, ◌&&◌, ◌||◌, cond}
+use mathlib.Core.Bool.{Bool, true, false, ◌&&◌, ◌||◌}
 use mathlib.Core.List.{List, [], ◌∷◌, map}
 use native.Mathlib.Omega.{arith}
 use lib.ListN.{length, replicate, length-drop, length-map, drop_of_length-le}
@@ -13,8 +13,6 @@ use Rattle.std.specs.Prelude.{Ok}
 use Rattle.rules.specs.Lists.{◌∈◌}
 use Rattle.text.specs.Parts.{split}
 use Rattle.text.specs.Words.{stall_word, cell_word}
-use Rattle.tables.specs.declared.Trigger.TheVariants.{Message as OnMessage, Event as OnEvent}
-use Rattle.tables.specs.declared.Outcome.TheVariants.{Stall, Go}
 use Rattle.tables.specs.declared.Cell.{Cell}
 use Rattle.tables.specs.declared.Tables.{Tables}
 use Rattle.tables.specs.Cells.{number, TriggerOk, OutcomeOk, CellOk, sent_numbers as numbers_of}
@@ -55,26 +53,19 @@ trigger-ok : (t : Tables) (f : Line) (x : List ℕ) → is_trigger t (cell_contr
 trigger-ok t f x h = go (is_message t x) refl
   where
     go : (b : Bool) → is_message t x ≡ b → TriggerOk t.message_count t.event_count (trigger_of t x)
-    go true p =
-        subst (λ (b : Bool). TriggerOk t.message_count t.event_count (cond b (OnMessage (record { 0 = message_at t x })) (OnEvent (record { 0 = event_at_lem t x })))) (sym p)
-        (ltb-true (message_at t x) t.message_count p)
-    go false p =
-        subst (λ (b : Bool). TriggerOk t.message_count t.event_count (cond b (OnMessage (record { 0 = message_at t x })) (OnEvent (record { 0 = event_at_lem t x })))) (sym p)
-        (ltb-true (event_at_lem t x) t.event_count
-        (and_right (is_cache (cell_controller f)) (is_event t x) (ap (λ (b : Bool). b || (is_cache (cell_controller f) && is_event t x)) (sym p) ∙ h)))
+    go true p = rw p (ltb-true (message_at t x) t.message_count p)
+    go false p = rw p (ltb-true (event_at_lem t x) t.event_count (and_right (is_cache (cell_controller f)) (is_event t x) (rw p at h)))
 
 next-ok : (t : Tables) (f : Line)
     → (says f 4 stall_word || (is_state_name t (cell_controller f) (field f 5) && all_messages t (sent_fields f))) ≡ true → OutcomeOk t.state_count (outcome_of t f)
 next-ok t f h = go (says f 4 stall_word) refl
   where
     go : (b : Bool) → says f 4 stall_word ≡ b → OutcomeOk t.state_count (outcome_of t f)
-    go true p =
-        subst (λ (b : Bool). OutcomeOk t.state_count (cond b Stall (Go (record { 0 = state_at t (cell_controller f) (field f 5) })))) (sym p) tt
+    go true p = rw p tt
     go false p =
-        subst (λ (b : Bool). OutcomeOk t.state_count (cond b Stall (Go (record { 0 = state_at t (cell_controller f) (field f 5) })))) (sym p)
+        rw p
         (ltb-true (state_at t (cell_controller f) (field f 5)) t.state_count
-        (and_left (is_state_name t (cell_controller f) (field f 5)) (all_messages t (sent_fields f))
-        (ap (λ (b : Bool). b || (is_state_name t (cell_controller f) (field f 5) && all_messages t (sent_fields f))) (sym p) ∙ h)))
+        (and_left (is_state_name t (cell_controller f) (field f 5)) (all_messages t (sent_fields f)) (rw p at h)))
 
 -- messages that are all declared
 sent-below : (t : Tables) (xs : List (List ℕ)) → all_messages t xs ≡ true → (b : ℕ) → b ∈ map number (map (message_no t) xs) → b < t.message_count
@@ -104,8 +95,7 @@ sent-known t f h k =
     (omega (arith, ap length none), ap (all_messages t) none))
     (λ (s : GoLine f (cell_controller f)). (
       omega (arith, length-drop 6 f, s.few),
-      and_right (is_state_name t (cell_controller f) (field f 5)) (all_messages t (sent_fields f))
-          (ap (λ (b : Bool). b || (is_state_name t (cell_controller f) (field f 5) && all_messages t (sent_fields f))) (sym s.word) ∙ k),
+      and_right (is_state_name t (cell_controller f) (field f 5)) (all_messages t (sent_fields f)) (rw s.word at k),
     ))
     (shaped-way f h)
 
@@ -123,7 +113,7 @@ cell-of-ok t f e =
       own = ltb-true (state_at t (cell_controller f) (field f 2)) t.state_count own;
       trigger = trigger-ok t f (field f 3) (and_left (is_trigger t (cell_controller f) (field f 3)) rest on);
       next = next-ok t f to;
-      sent = λ b m. sent-below t (sent_fields f) s.1 b (subst (λ (l : List ℕ). b ∈ l) (stored t f) m);
+      sent = λ b m. sent-below t (sent_fields f) s.1 b (rw (stored t f) at m);
     }
 
 -- the cell that a line was told to stand for

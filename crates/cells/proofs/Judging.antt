@@ -18,12 +18,12 @@ use Rattle.tables.specs.declared.Tables.{Tables}
 use Rattle.tables.specs.Tables.{stored_of}
 use Rattle.tables.specs.Clash.{any_clash_lem}
 use Rattle.text.specs.Line.{Line, says}
-use Rattle.lines.specs.Line.{cell, cell_of}
+use Rattle.lines.specs.Line.{cell}
 use Rattle.lines.specs.Checks.{shaped, known_cell, stall_in_stable, conflict, section_checks, shape_field, unknown_field, cell_names}
 use Rattle.lines.proofs.Reasons.{Reason, tells, eight_of, line_reason, section-told, in-section}
 use Rattle.lines.proofs.Sections.{a-cell}
 use Rattle.cells.specs.declared.readings.CellReading.{CellReading}
-use Rattle.cells.specs.readings.Known.{CellRead}
+use Rattle.cells.specs.readings.Known.{named_reading, CellRead}
 use Rattle.cells.specs.Told.{CellTold, ReadAs, CellJudged}
 use Rattle.cells.proofs.Names.{ok-known, err-unknown}
 
@@ -89,17 +89,14 @@ module _ (k : ℕ) (line : List ℕ) (t : Tables) (first : says (split 9 line) 0
   other_shape x s r q = refused r (misshapen t k f s.0) (rw (← s.1) q)
 
   module _ (s : shaped cell f ≡ true) where
-    abbrev read : CellReading
-    read = record { stuck = stall_in_stable cell t f; cell = cell_of t f }
-
     pub unknown_name : (x : Field) → CellRead f t (Err x) → (r : Refused) → told_refusal r ≡ field_refusal 7 k x.0 → CellTold k line t (Err r)
     unknown_name x e r q =
-        let u = err-unknown read (cell_names t f) (known_cell t f) x e in
+        let u = err-unknown (named_reading t f) (cell_names t f) (known_cell t f) x e in
         refused r (not_known t k f s u.0) (rw u.1 at q)
 
     pub told-judged : (at : CellReading) → CellRead f t (Ok at) → (r : Result Cell Refused) → CellJudged at k t r → CellTold k line t r
     told-judged at e r j =
-        let u = ok-known read (cell_names t f) (known_cell t f) at e in
+        let u = ok-known (named_reading t f) (cell_names t f) (known_cell t f) at e in
         record {
           told = in-section t k f cell (a-cell f first) ∙ j.told f (record { shape = s; known = u.0; stuck = ap (λ (x : CellReading). x.stuck) u.1; cell = ap (λ (x : CellReading). x.cell) u.1 });
           cell = rw (ap (λ (x : CellReading). x.cell) u.1) at j.cell;

@@ -1,5 +1,5 @@
 // Where a cell stands: the state and the trigger that its line names.
-ghost use Rattle.std.specs.Prelude.{◌≡◌, ◌≤◌};
+ghost use Rattle.std.specs.Prelude.{◌≤◌};
 ghost use Rattle.text.specs.Parts.{split};
 ghost use Rattle.cells.specs.places.Place.{TriggerTold, PlaceTold};
 

@@ -9,15 +9,14 @@ use Rattle.papers.specs.declared.refused.Field.{Field}
 use Rattle.papers.specs.Fields.{Looked, looked, first_bad_field}
 use Rattle.tables.specs.declared.Controller.{Controller}
 use Rattle.tables.specs.declared.Tables.{Tables}
-use Rattle.tables.specs.names.Names.{state_at, is_state_name}
+use Rattle.tables.specs.names.Names.{is_state_name}
 use Rattle.text.specs.Line.{Line, field, says}
-use Rattle.lines.specs.Line.{cell, cell_controller, sent_fields, trigger_of, cell_of}
-use Rattle.lines.specs.Checks.{is_trigger, all_messages, known_cell, place_names, go_names, cell_names, stall_in_stable}
+use Rattle.lines.specs.Line.{cell_controller, sent_fields}
+use Rattle.lines.specs.Checks.{is_trigger, all_messages, known_cell, place_names, go_names, cell_names}
 use Rattle.cells.specs.Names.{known_or_field}
 use Rattle.cells.specs.declared.places.Place.{Place}
-use Rattle.cells.specs.places.Place.{PlaceTold}
-use Rattle.cells.specs.declared.readings.CellReading.{CellReading}
-use Rattle.cells.specs.readings.Known.{CellRead}
+use Rattle.cells.specs.places.Place.{named_place, PlaceTold}
+use Rattle.cells.specs.readings.Known.{named_reading, CellRead}
 use Rattle.cells.proofs.Names.{ok-known, err-unknown}
 
 -- ---- two names and what follows
@@ -44,12 +43,6 @@ module _ (f : Line) (t : Tables) where
   abbrev whose : Controller
   whose = cell_controller f
 
-  abbrev place : Place
-  place = record { state = record { 0 = state_at t whose (field f 2) }; trigger = trigger_of t (field f 3) }
-
-  abbrev pub read : CellReading
-  read = record { stuck = stall_in_stable cell t f; cell = cell_of t f }
-
   -- what a line names behind its place
   abbrev rest : Bool
   rest = says f 4 stall_word || (is_state_name t whose (field f 5) && all_messages t (sent_fields f))
@@ -59,10 +52,10 @@ module _ (f : Line) (t : Tables) where
 
   pub not-placed : (k : Field) → PlaceTold f whose t (Err k) → CellRead f t (Err k)
   not-placed k e =
-      let u = err-unknown place (place_names t whose f) (is_state_name t whose (field f 2) && is_trigger t whose (field f 3)) k e in
-      rw u.1 (not-two 3 4 rest read names (is_state_name t whose (field f 2)) (is_trigger t whose (field f 3)) u.0)
+      let u = err-unknown (named_place t whose f) (place_names t whose f) (is_state_name t whose (field f 2) && is_trigger t whose (field f 3)) k e in
+      rw u.1 (not-two 3 4 rest (named_reading t f) names (is_state_name t whose (field f 2)) (is_trigger t whose (field f 3)) u.0)
 
-  pub at_place : (p : Place) → PlaceTold f whose t (Ok p) → (p ≡ place) × (known_or_field (known_cell t f) read (cell_names t f) ≡ known_or_field rest read names)
+  pub at_place : (p : Place) → PlaceTold f whose t (Ok p) → (p ≡ named_place t whose f) × (known_or_field (known_cell t f) (named_reading t f) (cell_names t f) ≡ known_or_field rest (named_reading t f) names)
   at_place p e =
-      let u = ok-known place (place_names t whose f) (is_state_name t whose (field f 2) && is_trigger t whose (field f 3)) p e in
-      (u.1, both-known 3 4 rest read names (is_state_name t whose (field f 2)) (is_trigger t whose (field f 3)) u.0)
+      let u = ok-known (named_place t whose f) (place_names t whose f) (is_state_name t whose (field f 2) && is_trigger t whose (field f 3)) p e in
+      (u.1, both-known 3 4 rest (named_reading t f) names (is_state_name t whose (field f 2)) (is_trigger t whose (field f 3)) u.0)

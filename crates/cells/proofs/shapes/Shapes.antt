@@ -1,6 +1,6 @@
 -- The shape of a cell's line.
 use Prim.Native.Nat.{ℕ, ◌≤◌, ◌<◌}
-use mathlib.Core.Path.{◌≡◌, refl, ap, ap₂, subst, ◌∙◌}
+use mathlib.Core.Path.{◌≡◌, refl, subst}
 use mathlib.Core.Bool.{Bool, true, false, not, ◌&&◌, ◌||◌, cond, and-false}
 use mathlib.Core.Logic.{◌⊎◌, inl, inr}
 use mathlib.Core.List.{List, [], ◌∷◌}
@@ -65,10 +65,7 @@ module _ (f : Line) where
   -- the field by its tests: whether each word is there, and what it says
   field-by : (t a u s g : Bool) → ltb 1 (length f) ≡ t → is_controller (field f 1) ≡ a → ltb 4 (length f) ≡ u → says f 4 stall_word ≡ s → says f 4 go_word ≡ g
       → shape_field cell f ≡ told t a u s g
-  field-by t a u s g p q r v w =
-      ap₂ (λ (x y : Bool). told x y (ltb 4 (length f)) (says f 4 stall_word) (says f 4 go_word)) p q
-      ∙ ap₂ (λ (x y : Bool). told t a x y (says f 4 go_word)) r v
-      ∙ ap (λ (x : Bool). told t a u s x) w
+  field-by t a u s g p q r v w = rw (p, q, r, v, w)
 
   -- ---- the two words
 

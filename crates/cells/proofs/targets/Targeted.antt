@@ -12,7 +12,7 @@ use Rattle.text.specs.Line.{Line, field}
 use Rattle.lines.specs.Line.{sent_fields}
 use Rattle.lines.specs.Checks.{all_messages, sent_names}
 use Rattle.cells.specs.declared.targets.Sent.{Sent}
-use Rattle.cells.specs.targets.Target.{sent_record, SentTold, TargetTold}
+use Rattle.cells.specs.targets.Target.{named_sent, SentTold, TargetTold}
 use Rattle.cells.proofs.Names.{ok-known, err-unknown}
 
 module _ (f : Line) (whose : Controller) (t : Tables) where
@@ -25,10 +25,10 @@ module _ (f : Line) (whose : Controller) (t : Tables) where
     pub not-sent : (k : Field) → SentTold (sent_fields f) t (Err k) → TargetTold f whose t (Err k)
     unfolding first_bad_field
     not-sent k e =
-        let u = err-unknown (sent_record t (sent_fields f)) (sent_names t 7 (sent_fields f)) (all_messages t (sent_fields f)) k e in
+        let u = err-unknown (named_sent t (sent_fields f)) (sent_names t 7 (sent_fields f)) (all_messages t (sent_fields f)) k e in
         rw (a.0, u.0, u.1)
 
     pub targeted : (v : Sent) → SentTold (sent_fields f) t (Ok v) → TargetTold f whose t (Ok (record { next = s; sent = v }))
     targeted v e =
-        let u = ok-known (sent_record t (sent_fields f)) (sent_names t 7 (sent_fields f)) (all_messages t (sent_fields f)) v e in
+        let u = ok-known (named_sent t (sent_fields f)) (sent_names t 7 (sent_fields f)) (all_messages t (sent_fields f)) v e in
         rw (a.0, u.0, a.1, u.1)

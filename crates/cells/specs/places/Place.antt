@@ -17,8 +17,9 @@ found_trigger b k = cond b (Some k) None
 abbrev pub TriggerTold : List ℕ → Controller → Tables → Option Trigger → Type 0
 TriggerTold x whose t r = r ≡ found_trigger (is_trigger t whose x) (trigger_of t x)
 
+abbrev pub named_place : Tables → Controller → Line → Place
+named_place t whose f = record { state = record { 0 = state_at t whose (field f 2) }; trigger = trigger_of t (field f 3) }
+
 abbrev pub PlaceTold : Line → Controller → Tables → Result Place Field → Type 0
 PlaceTold f whose t r =
-    r ≡ known_or_field (is_state_name t whose (field f 2) && is_trigger t whose (field f 3))
-    (record { state = record { 0 = state_at t whose (field f 2) }; trigger = trigger_of t (field f 3) })
-    (place_names t whose f)
+    r ≡ known_or_field (is_state_name t whose (field f 2) && is_trigger t whose (field f 3)) (named_place t whose f) (place_names t whose f)

@@ -11,15 +11,16 @@ use Rattle.cells.specs.Names.{known_or_field}
 use Rattle.cells.specs.declared.targets.Sent.{Sent}
 use Rattle.cells.specs.declared.targets.Target.{Target}
 
--- The messages with these names, of which the first stands in field 7.
-abbrev pub sent_record : Tables → List (List ℕ) → Sent
-sent_record t xs = record { sent = sent_from t xs; count = length xs }
+abbrev pub named_sent : Tables → List (List ℕ) → Sent
+named_sent t xs = record { sent = sent_from t xs; count = length xs }
 
+-- The first of the names stands in field 7, counted from 1.
 abbrev pub SentTold : List (List ℕ) → Tables → Result Sent Field → Type 0
-SentTold xs t r = r ≡ known_or_field (all_messages t xs) (sent_record t xs) (sent_names t 7 xs)
+SentTold xs t r = r ≡ known_or_field (all_messages t xs) (named_sent t xs) (sent_names t 7 xs)
+
+abbrev pub named_target : Tables → Controller → Line → Target
+named_target t whose f = record { next = record { 0 = state_at t whose (field f 5) }; sent = named_sent t (sent_fields f) }
 
 abbrev pub TargetTold : Line → Controller → Tables → Result Target Field → Type 0
 TargetTold f whose t r =
-    r ≡ known_or_field (is_state_name t whose (field f 5) && all_messages t (sent_fields f))
-    (record { next = record { 0 = state_at t whose (field f 5) }; sent = sent_record t (sent_fields f) })
-    (go_names t whose f)
+    r ≡ known_or_field (is_state_name t whose (field f 5) && all_messages t (sent_fields f)) (named_target t whose f) (go_names t whose f)
