@@ -9,6 +9,8 @@ use native.Mathlib.Omega.{arith}
 use lib.Dec.{eqb}
 use lib.ListN.{length}
 use borrow.Author.Tests.{eq-eqb, ne_eqb}
+use Rattle.std.specs.Prelude.{Result, Ok, Err}
+use Rattle.std.specs.Result.{IsErrAnd}
 use Rattle.rules.specs.Rules.{WaitsCycle}
 use Rattle.rules.specs.Plan.{LeastCount, PlanCycle}
 use Rattle.rules.specs.Promises.{GoodPlan}
@@ -18,8 +20,13 @@ use Rattle.rows.proofs.Given.{rows-accepted}
 use Rattle.rows.proofs.Counting.{pairs-le}
 use Rattle.rows.proofs.closure.Joining.{joins-le, few-joins}
 use Rattle.papers.specs.Checks.{first_of}
+use Rattle.papers.specs.refused.Refused.{number_of}
 use Rattle.papers.proofs.Checks.{only-given}
 use Rattle.relations.specs.declared.answer.RelationsAnswer.{RelationsAnswer}
+use Rattle.relations.specs.declared.answer.RelationsPlan.{RelationsPlan}
+use Rattle.relations.specs.declared.answer.CallRefused.{CallRefused}
+use Rattle.relations.specs.declared.answer.CallRefused.TheVariants.{Count, Stray, Room}
+use Rattle.relations.specs.answer.Told.{reason_of, answer_of}
 use Rattle.relations.specs.answer.Packed.{RelationsSmall, packed_relations, RelationsUnpacked}
 use Rattle.relations.specs.row_bytes.RowBytes.{rows_of_bytes}
 use Rattle.relations.specs.checks.CallChecks.{relations_checks, relations_refusal, refused_relations}
@@ -31,17 +38,24 @@ use Rattle.relations.proofs.checks.Passing.{passed, number_small, room-few}
 
 -- ---- the answers of the call
 
-module _ (size most n : ℕ) (causes stalls old : List ℕ) (r : RelationsAnswer) where
-  pub call-refused : (k : ℕ) → k ≡ (relations_refusal size most n causes stalls (length old)).number → k ≢ 0 → r ≡ refused_relations k n
-      → RelationsCall size most n causes stalls old old r
-  call-refused k e some a = record {
-    refused = λ g. record { answer = a ∙ ap (λ (j : ℕ). refused_relations j n) e; bytes = refl };
-    planned = λ z. absurd (some (e ∙ z));
-  }
+-- an error that `?` hands on
+pub handed-on : (told : Result RelationsPlan CallRefused) (e : CallRefused) → IsErrAnd told (λ (f : CallRefused). f ≡ e) → told ≡ Err e
+handed-on (Ok p) e z = absurd z
+handed-on (Err f) e z = ap Err z
 
-  pub call-planned : (new : List ℕ) → (relations_refusal size most n causes stalls (length old)).number ≡ 0
-      → RelationsPlanned n (rows_of_bytes size n causes) (rows_of_bytes size n stalls) old new r → RelationsCall size most n causes stalls old new r
-  call-planned new e p = record { refused = λ g. absurd (g e); planned = λ z. p }
+pub some-number : (e : CallRefused) → number_of (reason_of e) ≢ 0
+some-number Count z = absurd (omega (arith, z))
+some-number Stray z = absurd (omega (arith, z))
+some-number (Room n) z = absurd (omega (arith, z))
+
+module _ (size most n : ℕ) (causes stalls old : List ℕ) where
+  pub call-refused : (e : CallRefused) → answer_of (Err e) ≡ refused_relations (relations_refusal size most n causes stalls (length old)).number n
+      → RelationsCall size most n causes stalls old old (answer_of (Err e))
+  unfolding refused_relations
+  call-refused e a = record {
+    refused = λ g. record { answer = a; bytes = refl };
+    planned = λ z. absurd (some-number e (ap (λ (r : RelationsAnswer). r.number) a ∙ z));
+  }
 
 -- ---- the numbers are small
 

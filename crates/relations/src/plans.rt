@@ -1,11 +1,13 @@
 // The plan of bare relations: of the rows of waits, and of two tables that pass the checks.
-ghost use Rattle.std.specs.Prelude.{◌*◌, ◌≤◌, ◌≡◌, length};
+ghost use Rattle.std.specs.Prelude.{◌≤◌, ◌≡◌, ◌≢◌, Some, Ok, length};
 ghost use Rattle.rows.specs.Rows.{Stray};
 ghost use Rattle.rows.specs.Gather.{Tidy};
-ghost use Rattle.relations.specs.row_bytes.RowBytes.{RowSize, rows_of_bytes};
+ghost use Rattle.relations.specs.answer.Told.{answer_of};
+ghost use Rattle.relations.specs.row_bytes.RowBytes.{rows_of_bytes};
 ghost use Rattle.relations.specs.plans.Plans.{RelationsPlanned, WaitsPlan};
 
-use crate::answer::RelationsAnswer;
+use crate::answer::RelationsPlan;
+use crate::row_bytes::Table;
 
 // The plan of the rows of waits: a network for each message, or the shown cycle. The joins are told as they are given. The walks keep their
 // sets in the rows lent.
@@ -15,53 +17,45 @@ fn plan_rows(
     joins: usize,
     sets: &mut [u64],
     out: &mut [u8],
-) -> RelationsAnswer
+) -> RelationsPlan
     requires { (1 ≤ n) × (n ≤ 64) × (n ≤ length waits.now) × (n ≤ length sets.old) × (n ≤ length out.old) × Tidy n waits.now }
-    ensures { WaitsPlan n waits.now joins out.old out.new result }
+    ensures plan { WaitsPlan n waits.now joins out.old out.new (answer_of (Ok result)) }
+    ensures counted { result.networks ≢ Some 0 }
 {
-    let sum = waits::pairs(waits, n);
-    let found = walks::heights::heights(waits, n, sets, out);
-    if let Some(networks) = found {
-        return RelationsAnswer {
-            number: 0,
-            length: n,
-            networks: networks,
-            needed: 0,
-            pairs: sum,
-            joins: joins,
-        };
-    }
-    // where there are no heights there is a cycle
-    let len = walks::cycles::cycle(waits, waits, n, sets, out).unwrap();
-    RelationsAnswer {
-        number: 0,
-        length: len,
-        networks: 0,
-        needed: 0,
-        pairs: sum,
-        joins: joins,
+    let pairs = waits::pairs(waits, n);
+    let networks = walks::heights::heights(waits, n, sets, out);
+    let length = match networks {
+        Some(_) => n,
+        // where there are no heights there is a cycle
+        None => walks::cycles::cycle(waits, waits, n, sets, out).unwrap(),
+    };
+    RelationsPlan {
+        length,
+        networks,
+        pairs,
+        joins,
     }
 }
 
-// The plan of two tables that pass the checks. It is worked out in the three tables of rows lent, which are as long as the form asks: the causes are
-// closed where they stand, and where the stalls stood the walks keep their sets.
-pub(crate) fn plan_tables(
-    size: usize,
-    n: usize,
-    causes: &[u8],
-    stalls: &[u8],
-    c: &mut [u64],
-    s: &mut [u64],
-    w: &mut [u64],
+// The plan of two tables that pass the checks. It is worked out in three tables of MOST rows: the causes are closed where they are loaded, and
+// where the stalls stood the walks keep their sets.
+pub(crate) fn plan_tables<const SIZE: usize, const MOST: usize>(
+    causes: &Table<SIZE>,
+    stalls: &Table<SIZE>,
     out: &mut [u8],
-) -> RelationsAnswer
-    requires row_size { RowSize size × (1 ≤ n) × (n ≤ 64) × (length causes.now ≡ size * n) × (length stalls.now ≡ size * n) }
-    requires not_stray { (¬ Stray n (rows_of_bytes size n causes.now)) × (¬ Stray n (rows_of_bytes size n stalls.now)) }
-    requires n_in_bounds { (n ≤ length c.old) × (n ≤ length s.old) × (n ≤ length w.old) × (n ≤ length out.old) }
-    ensures { RelationsPlanned n (rows_of_bytes size n causes.now) (rows_of_bytes size n stalls.now) out.old out.new result }
+) -> RelationsPlan
+    requires one_count { stalls.now.n ≡ causes.now.n }
+    requires n_in_bounds { (causes.now.n ≤ MOST) × (MOST ≤ 64) × (causes.now.n ≤ length out.old) }
+    requires not_stray { (¬ Stray causes.now.n (rows_of_bytes SIZE causes.now.n causes.now.bytes.now)) × (¬ Stray causes.now.n (rows_of_bytes SIZE causes.now.n stalls.now.bytes.now)) }
+    ensures plan { RelationsPlanned causes.now.n (rows_of_bytes SIZE causes.now.n causes.now.bytes.now) (rows_of_bytes SIZE causes.now.n stalls.now.bytes.now) out.old out.new (answer_of (Ok result)) }
+    ensures counted { result.networks ≢ Some 0 }
 {
-    crate::row_bytes::load(causes, size, n, c);
-    crate::row_bytes::load(stalls, size, n, s);
-    let joins = waits::waits(c, s, n, w);
-    plan_rows(w, n, joins, s, out)
+    let n = causes.n;
+    let mut c: [u64; MOST] = [0; MOST];
+    let mut s: [u64; MOST] = [0; MOST];
+    let mut w: [u64; MOST] = [0; MOST];
+    causes.load(&mut c);
+    stalls.load(&mut s);
+    let joins = waits::waits(&mut c, &s, n, &mut w);
+    plan_rows(&w, n, joins, &mut s, out)
 }

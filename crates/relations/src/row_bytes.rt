@@ -1,67 +1,72 @@
-// Rows as the bytes of a table: loaded, and searched for stray bits. A row of a table has `size` bytes: 4 in the first form of the call, 8 in the
+// Rows as the bytes of a table: loaded, and searched for stray bits. A row of a table has SIZE bytes: 4 in the first form of the call, 8 in the
 // second. A row that is loaded has 64 bits in either.
-ghost use Rattle.std.specs.Prelude.{◌≡◌, true, ◌↔◌, ◌+◌, ◌*◌, ◌<◌, ◌≤◌, length, take, drop};
+ghost use Rattle.std.specs.Prelude.{◌≡◌, true, ◌↔◌, ◌*◌, ◌<◌, ◌≤◌, length};
 ghost use Rattle.rows.specs.Rows.{Stray};
-ghost use Rattle.relations.specs.row_bytes.RowBytes.{RowSize, from_bytes, rows_of_bytes, row_at, Loaded};
+ghost use Rattle.relations.specs.row_bytes.RowBytes.{RowSize, rows_of_bytes, row_at, Loaded};
 
 // How many bytes a row has in a table: in the first form, and in the second.
 pub(crate) const ROW_BYTES: usize = 4;
 
 pub(crate) const WIDE_ROW_BYTES: usize = 8;
 
-fn wide(x: u8) -> u64
-    ensures { (result ≡ x) × (result < 256) }
-{
-    x as u64
+// A table of n rows.
+#[derive(Clone, Copy)]
+pub(crate) struct Table<'a, const SIZE: usize> {
+    bytes: &'a [u8],
+    pub(crate) n: usize,
+    ghost row_size: { ∥ RowSize SIZE ∥₁ },
+    ghost whole: { (1 ≤ n) × (n ≤ 64) × (length bytes.now ≡ SIZE * n) },
 }
 
-// The number that four bytes are, lowest first.
-fn four_bytes(table: &[u8], k: usize) -> u64
-    requires { k + 4 ≤ length table.now }
-    ensures { (result ≡ from_bytes (take 4 (drop k table.now))) × (result < 4294967296) }
-{
-    let b0 = wide(table[k]);
-    let b1 = wide(table[k + 1]);
-    let b2 = wide(table[k + 2]);
-    let b3 = wide(table[k + 3]);
-    b0 + b1 * 256 + b2 * 65536 + b3 * 16777216
-}
-
-// Row i of a table, lowest byte first.
-fn row_at(table: &[u8], size: usize, i: usize) -> u64
-    requires { RowSize size × (size * i + size ≤ length table.now) }
-    ensures { result ≡ row_at size table.now i }
-{
-    let k = size * i;
-    let low = four_bytes(table, k);
-    if size == ROW_BYTES {
-        return low;
+impl<'a, const SIZE: usize> Table<'a, SIZE> {
+    // The table that these bytes are.
+    pub(crate) fn of(bytes: &'a [u8], n: usize) -> Table<'a, SIZE>
+        requires { RowSize SIZE × (1 ≤ n) × (n ≤ 64) × (length bytes.now ≡ SIZE * n) }
+        ensures { (result.bytes.now ≡ bytes.now) × (result.n ≡ n) }
+    {
+        Table { bytes, n }
     }
-    low + four_bytes(table, k + 4) * 4294967296
-}
 
-// The table's n rows, laid in the first n rows lent.
-pub(crate) fn load(table: &[u8], size: usize, n: usize, rows: &mut [u64])
-    requires { RowSize size × (n ≤ 64) × (length table.now ≡ size * n) × (n ≤ length rows.old) }
-    ensures { Loaded size n table.now rows.old rows.new }
-{
-    let mut i: usize = 0;
-    while i < n {
-        rows[i] = row_at(table, size, i);
-        i += 1;
+    // Row i, lowest byte first.
+    fn row(&self, i: usize) -> u64
+        requires { i < self.now.n }
+        ensures { result ≡ row_at SIZE self.now.bytes.now i }
+    {
+        let b = self.bytes;
+        let k = SIZE * i;
+        if SIZE == ROW_BYTES {
+            return u32::from_le_bytes([b[k], b[k + 1], b[k + 2], b[k + 3]]) as u64;
+        }
+        u64::from_le_bytes([
+            b[k],
+            b[k + 1],
+            b[k + 2],
+            b[k + 3],
+            b[k + 4],
+            b[k + 5],
+            b[k + 6],
+            b[k + 7],
+        ])
     }
-}
 
-// Whether one of the table's n rows has a bit at or above n: the rows together are more than their bits below n.
-pub(crate) fn stray(table: &[u8], size: usize, n: usize) -> bool
-    requires { RowSize size × (1 ≤ n) × (n ≤ 64) × (length table.now ≡ size * n) }
-    ensures { (result ≡ true) ↔ Stray n (rows_of_bytes size n table.now) }
-{
-    let mut all: u64 = 0;
-    let mut i: usize = 0;
-    while i < n {
-        all = rows::join(all, row_at(table, size, i));
-        i += 1;
+    // The rows, laid in the first rows lent.
+    pub(crate) fn load(&self, rows: &mut [u64])
+        requires { self.now.n ≤ length rows.old }
+        ensures { Loaded SIZE self.now.n self.now.bytes.now rows.old rows.new }
+    {
+        for i in 0..self.n {
+            rows[i] = self.row(i);
+        }
     }
-    rows::meet(all, rows::all_below(n)) != all
+
+    // Whether a row has a bit at or above n: the rows together are more than their bits below n.
+    pub(crate) fn stray(&self) -> bool
+        ensures { (result ≡ true) ↔ Stray self.now.n (rows_of_bytes SIZE self.now.n self.now.bytes.now) }
+    {
+        let mut all: u64 = 0;
+        for i in 0..self.n {
+            all = rows::join(all, self.row(i));
+        }
+        rows::meet(all, rows::all_below(self.n)) != all
+    }
 }

@@ -30,18 +30,6 @@ none-given false b e = (refl, e)
 -- ---- 17: the count, and the tables' lengths
 
 module _ (size most n : ℕ) (causes stalls : List ℕ) where
-  pub count-zero : n ≡ 0 → is_wrong_count size most n causes stalls ≡ true
-  count-zero e = rw (eq-eqb n 0 e) refl
-
-  pub count-above : n ≢ 0 → most < n → is_wrong_count size most n causes stalls ≡ true
-  count-above g h = rw (ne_eqb n 0 g, lt-ltb most n h) refl
-
-  pub count-causes : n ≢ 0 → n ≤ most → length causes ≢ size * n → is_wrong_count size most n causes stalls ≡ true
-  count-causes g h d = rw (ne_eqb n 0 g, le-ltb most n h, ne_eqb (length causes) (size * n) d) refl
-
-  pub count-stalls : n ≢ 0 → n ≤ most → length causes ≡ size * n → is_wrong_count size most n causes stalls ≡ wrong_length size n stalls
-  count-stalls g h e = rw (ne_eqb n 0 g, le-ltb most n h, eq-eqb (length causes) (size * n) e) refl
-
   pub record RightCount : Type 0 where
     pub some : 0 < n
     pub few : n ≤ most

@@ -37,9 +37,6 @@ agree-sym n rows rows' e i h = sym (e i h)
 pub rows_agree : (n : ℕ) (rows rows' : List ℕ) → Agree n rows rows' → (i j : ℕ) → Rows n rows i j → Rows n rows' i j
 rows_agree n rows rows' e i j r = record { i_below = r.i_below; j_below = r.j_below; bit = subst (λ (x : ℕ). Bit x j) (e i r.i_below) r.bit }
 
-pub tidy-agree : (n : ℕ) (rows rows' : List ℕ) → Agree n rows rows' → Tidy n rows' → Tidy n rows
-tidy-agree n rows rows' e t i j h b = t i j h (subst (λ (x : ℕ). Bit x j) (e i h) b)
-
 pub waits-agree : (n : ℕ) (causes causes' stalls stalls' : List ℕ) → Agree n causes causes' → Agree n stalls stalls' → (b c : ℕ) → Waits (of_rows n causes stalls) b c → Waits (of_rows n causes' stalls') b c
 waits-agree n causes causes' stalls stalls' e f b c w = (w.0, rows_agree n stalls stalls' f w.0 b w.1, plus-map (rows_agree n causes causes' e) w.0 c w.2)
 
@@ -133,21 +130,3 @@ module _ (n : ℕ) (rows old : List ℕ) (room : n ≤ length old) (sum : ℕ) (
     where
       t : HeightsWritten rows n old new k
       t = (subst (Heights rows n old new) e h).told
-
-  pub cycled : (mid new : List ℕ) (r q : Option ℕ) (len : ℕ) → r ≡ None → Heights rows n old mid r → q ≡ Some len → Cycle rows rows n mid new q
-      → WaitsPlan n rows j old new (record { number = 0; length = len; networks = 0; needed = 0; pairs = sum; joins = j })
-  cycled mid new r q len e h f c = record {
-    written = take len new;
-    wrote = wrote-first len old new (c.long ∙ ap length none.kept) (omega (arith, t.fits)) (t.rest ∙ ap (λ (l : List ℕ). drop len l) none.kept);
-    class = inr (record { none = refl; shown = t.shown });
-    row_pairs = counted;
-    row_joins = refl;
-    number_0 = refl;
-    needed_0 = refl;
-  }
-    where
-      none : NoHeights rows n old mid
-      none = (subst (Heights rows n old mid) e h).told
-
-      t : CycleWritten rows rows n mid new len
-      t = (subst (Cycle rows rows n mid new) f c).told

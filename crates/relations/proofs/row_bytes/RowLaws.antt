@@ -33,67 +33,6 @@ rows_at size (suc n) table (suc i) h =
     next : (size i : ℕ) → size + size * i ≡ size * suc i
     next size i = omega (arith, mul-suc size i)
 
--- ---- 4 bytes
-
-from : (table : List ℕ) (k j : ℕ) → k < length table → j ≡ suc k → drop k table ≡ get_or table k 0 ∷ drop j table
-from table k j h e = drop-cons table k 0 h ∙ ap (λ (m : ℕ). get_or table k 0 ∷ drop m table) (sym e)
-
-pub four_bytes : (table : List ℕ) (k : ℕ) → k + 4 ≤ length table
-    → from_bytes (take 4 (drop k table)) ≡ get_or table k 0 + get_or table (k + 1) 0 * 256 + get_or table (k + 2) 0 * 65536 + get_or table (k + 3) 0 * 16777216
-four_bytes table k h =
-    rw (
-      from table k (k + 1) (omega arith) (omega arith),
-      from table (k + 1) (k + 2) (omega arith) (omega arith),
-      from table (k + 2) (k + 3) (omega arith) (omega arith),
-      from table (k + 3) (k + 4) (omega arith) (omega arith),
-    ) (omega arith)
-
--- ---- 8 bytes
-
-none : (k : ℕ) → from_bytes (take k []) ≡ 0
-none zero = refl
-none (suc k) = refl
-
-from-append : (k : ℕ) (l : List ℕ) → from_bytes (take (suc (suc (suc (suc k)))) l) ≡ from_bytes (take 4 l) + 4294967296 * from_bytes (take k (drop 4 l))
-from-append k [] = omega (arith, none k)
-from-append k (a ∷ []) = omega (arith, none k)
-from-append k (a ∷ b ∷ []) = omega (arith, none k)
-from-append k (a ∷ b ∷ c ∷ []) = omega (arith, none k)
-from-append k (a ∷ b ∷ c ∷ d ∷ l) = omega arith
-
-eight-bytes : (table : List ℕ) (k : ℕ) → from_bytes (take 8 (drop k table)) ≡ from_bytes (take 4 (drop k table)) + from_bytes (take 4 (drop (k + 4) table)) * 4294967296
-eight-bytes table k = omega (arith, from-append 4 (drop k table), ap (λ (l : List ℕ). from_bytes (take 4 l)) (drop-drop 4 k table))
-
--- a row of 4 bytes, and one of 8 by its two halves
-pub row-narrow : (size : ℕ) (table : List ℕ) (k r : ℕ) → size ≡ 4 → r ≡ from_bytes (take 4 (drop k table)) → r ≡ from_bytes (take size (drop k table))
-row-narrow size table k r e q = q ∙ ap (λ (j : ℕ). from_bytes (take j (drop k table))) (sym e)
-
-pub row-halves : (size : ℕ) (table : List ℕ) (k low high : ℕ) → RowSize size → size ≢ 4 → low ≡ from_bytes (take 4 (drop k table)) → high ≡ from_bytes (take 4 (drop (k + 4) table))
-    → low + high * 4294967296 ≡ from_bytes (take size (drop k table))
-row-halves size table k low high (inl e) g p q = absurd (g e)
-row-halves size table k low high (inr e) g p q =
-    let h : low + high * 4294967296 ≡ from_bytes (take 8 (drop k table)) = omega (arith, p, q, eight-bytes table k) in
-    h ∙ ap (λ (j : ℕ). from_bytes (take j (drop k table))) (sym e)
-
--- ---- a row within its table
-
--- the first four bytes of a row from place k on, and the next four of a row of 8
-pub first-within : (size k long : ℕ) → RowSize size → k + size ≤ long → k + 4 ≤ long
-first-within size k long (inl e) h = omega (arith, e)
-first-within size k long (inr e) h = omega (arith, e)
-
-pub next-within : (size k long : ℕ) → RowSize size → size ≢ 4 → k + size ≤ long → k + 4 + 4 ≤ long
-next-within size k long (inl e) g h = absurd (g e)
-next-within size k long (inr e) g h = omega (arith, e)
-
-pub row_within : (size n i : ℕ) → RowSize size → i < n → size * i + size ≤ size * n
-row_within size n i (inl e) h = rw e (omega arith)
-row_within size n i (inr e) h = rw e (omega arith)
-
-pub table-small : (size n : ℕ) → RowSize size → n ≤ 64 → size * n ≤ 512
-table-small size n (inl e) h = rw e (omega arith)
-table-small size n (inr e) h = rw e (omega arith)
-
 -- ---- the rows of a table, laid in rows
 
 -- row i of the table
@@ -140,11 +79,3 @@ module _ (w : ℕ) (rows : List ℕ) (n all i below low : ℕ) (h : n ≤ i) (in
           let r = (inv.bits t.0).0 t.2.1 in
           record { i = r.0; j = t.0; i_below = omega (arith, r.1, inv.at_most); j_above = t.2.0; bit = r.2 }
       go (inr f) = absurd (g (same_bits w low all small inv.small (λ j l. (λ b. ((both.bits j).0 b).0, λ b. (both.bits j).1 (b, (only.bits j).1 (under f j l b (dec_lt j n)))))))
-
--- no stray bit: the rows are tidy
-pub tidy : (n : ℕ) (rows : List ℕ) → ¬ Stray n rows → Tidy n rows
-tidy n rows f i j h b = go (dec_lt j n)
-  where
-    go : Dec (j < n) → j < n
-    go (yes l) = l
-    go (no g) = absurd (f (record { i = i; j = j; i_below = h; j_above = omega arith; bit = b }))

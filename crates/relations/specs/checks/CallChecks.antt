@@ -1,12 +1,14 @@
 -- The checks of the relations call, in the paper's order (01-scope.md, "Relations call" and "Refusal numbers").
 -- A row has `size` bytes, and there are at most `most` messages: 4 and 32.
-use Rattle.std.specs.Prelude.{ℕ, ◌*◌, Bool, ◌||◌, not, cond, List, [], ◌∷◌, length, eqb, ltb}
+use Rattle.std.specs.Prelude.{ℕ, ◌*◌, ◌≡◌, Bool, ◌||◌, not, cond, List, [], ◌∷◌, length, eqb, ltb, Result, Ok, Err}
 use Rattle.std.proofs.Math.Bool.{decide}
 use Rattle.rows.proofs.Strays.{stray?}
 use Rattle.papers.specs.declared.Refusal.{Refusal}
 use Rattle.papers.specs.Checks.{Check, check, first_of}
 use Rattle.relations.specs.row_bytes.RowBytes.{rows_of_bytes}
 use Rattle.relations.specs.declared.answer.RelationsAnswer.{RelationsAnswer}
+use Rattle.relations.specs.declared.answer.CallRefused.{CallRefused}
+use Rattle.relations.specs.answer.Told.{answer_of}
 
 -- A table is not exactly so many bytes a message.
 abbrev pub wrong_length : ℕ → ℕ → List ℕ → Bool
@@ -40,3 +42,8 @@ relations_refusal size most n causes stalls room = first_of (relations_checks si
 -- The number of row joins is one of these: "0 with a refusal".
 unfoldable pub refused_relations : ℕ → ℕ → RelationsAnswer
 refused_relations number n = record { number = number; length = 0; networks = 0; needed = cond (eqb number 16) n 0; pairs = 0; joins = 0 }
+
+-- What the checks tell where the refusal's number is k: they are passed, or they say why not.
+abbrev pub Checked : ℕ → ℕ → {T : Type 0} → Result T CallRefused → Type 0
+Checked k n (Ok t) = k ≡ 0
+Checked k n (Err e) = answer_of (Err e) ≡ refused_relations k n

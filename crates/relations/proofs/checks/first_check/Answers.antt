@@ -1,45 +1,42 @@
 -- `relations::checks::first_check` meets its contract.
-use mathlib.Core.Path.{sym, ◌∙◌}
-use native.Mathlib.Omega.{arith}
+use Prim.Native.Nat.{ℕ}
+use mathlib.Core.Path.{sym, ap, ◌∙◌}
 use Rattle.rows.proofs.Told.{told-false}
-use Rattle.relations.proofs.checks.Passing.{right, stray-causes, stray-stalls, no-strays, first_count, first-stray, first-room, first-none}
+use Rattle.relations.specs.checks.CallChecks.{refused_relations}
+use Rattle.relations.proofs.checks.Passing.{stray-causes, stray-stalls, no-strays, first_count, first-stray, first-room, first-none}
 use Rattle.relations.proofs.checks.first_check.Goals as goal
 
 pub returns-then-wrong_count : goal.returns-then-wrong_count
-returns-then-wrong_count c =
+unfolding refused_relations
+returns-then-wrong_count g c =
     let a = c.args in
-    sym (first_count a.size a.most a.n a.causes.now a.stalls.now a.room (sym c.wrong_count.ensures ∙ c.if-wrong_count.true))
-
-pub stray-requires : goal.stray-requires
-stray-requires c =
-    let p = c.requires in
-    let a = c.args in
-    let k = right a.size a.most a.n a.causes.now a.stalls.now (sym c.wrong_count.ensures ∙ c.if-wrong_count.false) in
-    (p.0, k.some, omega (arith, k.few, p.1), k.causes-long)
+    ap (λ (k : ℕ). refused_relations k a.n) (sym (first_count g.row.SIZE g.row.MOST a.n a.causes.now a.stalls.now a.room (sym c.wrong_count.ensures ∙ c.if-wrong_count.true)))
 
 pub returns-then-stray : goal.returns-then-stray
-returns-then-stray c =
+unfolding refused_relations
+returns-then-stray g c =
     let a = c.args in
-    sym (first-stray a.size a.most a.n a.causes.now a.stalls.now a.room (sym c.wrong_count.ensures ∙ c.if-wrong_count.false) (stray-causes a.size a.n a.causes.now a.stalls.now (c.stray.ensures.0 c.if-stray.true)))
-
-pub stray-requires-2 : goal.stray-requires-2
-stray-requires-2 c =
-    let p = c.requires in
-    let a = c.args in
-    let k = right a.size a.most a.n a.causes.now a.stalls.now (sym c.wrong_count.ensures ∙ c.if-wrong_count.false) in
-    (p.0, k.some, omega (arith, k.few, p.1), k.stalls-long)
+    let s = rw (c.of.ensures.0, c.of.ensures.1) at (c.stray.ensures.0 c.if-stray.true) in
+    ap (λ (k : ℕ). refused_relations k a.n) (sym (first-stray g.row.SIZE g.row.MOST a.n a.causes.now a.stalls.now a.room (sym c.wrong_count.ensures ∙ c.if-wrong_count.false) (stray-causes g.row.SIZE a.n a.causes.now a.stalls.now s)))
 
 pub returns-then-stray-2 : goal.returns-then-stray-2
-returns-then-stray-2 c =
+unfolding refused_relations
+returns-then-stray-2 g c =
     let a = c.args in
-    sym (first-stray a.size a.most a.n a.causes.now a.stalls.now a.room (sym c.wrong_count.ensures ∙ c.if-wrong_count.false) (stray-stalls a.size a.n a.causes.now a.stalls.now (c.stray-2.ensures.0 c.if-stray-2.true)))
+    let s = rw (c.of-2.ensures.0, c.of-2.ensures.1) at (c.stray-2.ensures.0 c.if-stray-2.true) in
+    ap (λ (k : ℕ). refused_relations k a.n) (sym (first-stray g.row.SIZE g.row.MOST a.n a.causes.now a.stalls.now a.room (sym c.wrong_count.ensures ∙ c.if-wrong_count.false) (stray-stalls g.row.SIZE a.n a.causes.now a.stalls.now s)))
 
 pub returns-then-room-n : goal.returns-then-room-n
-returns-then-room-n c =
+unfolding refused_relations
+returns-then-room-n g c =
     let a = c.args in
-    sym (first-room a.size a.most a.n a.causes.now a.stalls.now a.room (sym c.wrong_count.ensures ∙ c.if-wrong_count.false) (no-strays _ _ _ _ (told-false _ _ c.stray.ensures c.if-stray.false) (told-false _ _ c.stray-2.ensures c.if-stray-2.false)) c.if-room-n.true)
+    let s = rw (c.of.ensures.0, c.of.ensures.1) at (told-false _ _ c.stray.ensures c.if-stray.false) in
+    let t = rw (c.of-2.ensures.0, c.of-2.ensures.1) at (told-false _ _ c.stray-2.ensures c.if-stray-2.false) in
+    ap (λ (k : ℕ). refused_relations k a.n) (sym (first-room g.row.SIZE g.row.MOST a.n a.causes.now a.stalls.now a.room (sym c.wrong_count.ensures ∙ c.if-wrong_count.false) (no-strays _ _ _ _ s t) c.if-room-n.true))
 
 pub returns : goal.returns
-returns c =
+returns g c =
     let a = c.args in
-    sym (first-none a.size a.most a.n a.causes.now a.stalls.now a.room (sym c.wrong_count.ensures ∙ c.if-wrong_count.false) (no-strays _ _ _ _ (told-false _ _ c.stray.ensures c.if-stray.false) (told-false _ _ c.stray-2.ensures c.if-stray-2.false)) c.if-room-n.false)
+    let s = rw (c.of.ensures.0, c.of.ensures.1) at (told-false _ _ c.stray.ensures c.if-stray.false) in
+    let t = rw (c.of-2.ensures.0, c.of-2.ensures.1) at (told-false _ _ c.stray-2.ensures c.if-stray-2.false) in
+    first-none g.row.SIZE g.row.MOST a.n a.causes.now a.stalls.now a.room (sym c.wrong_count.ensures ∙ c.if-wrong_count.false) (no-strays _ _ _ _ s t) c.if-room-n.false
