@@ -4,12 +4,14 @@
 
 ghost use Rattle.zeveltoren.specs.Packed.{PackedRelations, PackedCheck, PackedPlan, PackedJudgement};
 
+use relations::answer::RelationsAnswer;
+
 // The relations call.
 pub fn vn_relations(n: u64, causes: &[u8], stalls: &[u8], out: &mut [u8]) -> u64
     ensures { PackedRelations 4 32 n causes.now stalls.now out.old out.new result }
 {
     let told = relations::relations(n as usize, causes, stalls, out);
-    relations::answer::packed(told)
+    relations::answer::packed(RelationsAnswer::from(told))
 }
 
 // The relations call in its second form: rows of 8 bytes, and up to 64 messages.
@@ -17,7 +19,7 @@ pub fn vn_relations64(n: u64, causes: &[u8], stalls: &[u8], out: &mut [u8]) -> u
     ensures { PackedRelations 8 64 n causes.now stalls.now out.old out.new result }
 {
     let told = relations::relations64(n as usize, causes, stalls, out);
-    relations::answer::packed(told)
+    relations::answer::packed(RelationsAnswer::from(told))
 }
 
 // Whether a protocol text is accepted, and else the refusal's number and line.
