@@ -126,10 +126,11 @@ impl Form {
 
     // The call in this form.
     fn call(self, n: usize, causes: &[u8], stalls: &[u8], out: &mut [u8]) -> RelationsAnswer {
-        match self {
+        let told = match self {
             Form::First => relations::relations(n, causes, stalls, out),
             Form::Second => relations::relations64(n, causes, stalls, out),
-        }
+        };
+        RelationsAnswer::from(told)
     }
 }
 
