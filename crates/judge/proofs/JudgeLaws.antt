@@ -3,9 +3,8 @@ use Prim.Native.Nat.{ℕ}
 use mathlib.Core.Path.{◌≡◌, refl, ap, sym, ◌∙◌, subst}
 use mathlib.Core.Logic.{◌≢◌, inl, inr, ⊎_elim}
 use mathlib.Core.List.{List, [], ◌∷◌, ◌++◌}
-use native.Mathlib.Omega.{arith}
 use Rattle.rules.specs.Walks.{Chain}
-use Rattle.rules.specs.Rules.{MessageNo, Relations, Mapping, Waits, Queues, Step}
+use Rattle.rules.specs.Rules.{MessageNo, Relations, Mapping, Waits, Queues, Step, Fit}
 use Rattle.rules.specs.Plan.{Closed, Word, Says}
 use Rattle.rules.proofs.Promises.{shown-is-real}
 use Rattle.tables.specs.declared.Tables.{Tables}
@@ -15,13 +14,14 @@ use Rattle.protocol.specs.whole.Whole.{Reading}
 use Rattle.protocol.specs.Reading.{read_protocol_lem}
 use Rattle.mapping.specs.Mapped.{Mapped}
 use Rattle.answers.specs.Answers.{refused_at_lem, Listed}
-use Rattle.plan_listing.specs.PlanText.{first_messages}
 use Rattle.judge_listing.specs.fit.FitText.{fit_text}
 use Rattle.judge_listing.specs.JudgeText.{unfit_text, word_in, steps_from, steps_around}
 use Rattle.judge_listing.specs.Places.{GivenWalk, walk_steps}
 use Rattle.judge_listing.proofs.Places.{word-by-bit}
 use Rattle.verdicts.specs.declared.JudgementFound.{JudgementFound}
-use Rattle.verdicts.specs.Verdicts.{mapping_of_lem, WaitsOf, Fitting, Unfitting, JudgementIs}
+use Rattle.std.specs.Prelude.{Option, Some, None, MatchOption}
+use Rattle.verdicts.specs.declared.ShownCycle.{ShownCycle}
+use Rattle.verdicts.specs.Verdicts.{mapping_of_lem, cycle_of, WaitsOf, Unfitting, JudgementIs}
 use Rattle.judge.specs.Call.{Shows, ShowsAll, JudgementWritten, mapped_for, AfterProtocol, JudgeCall}
 
 -- ---- the words that the rows of waits tell
@@ -45,38 +45,37 @@ module _ (p : Relations) (φ : Mapping) (rows : List ℕ) (w : WaitsOf p rows) w
 -- ---- the judgement
 
 module _ (t : Tables) (φ : Mapping) (v : JudgementFound) (is : JudgementIs (relations_of_tables t) φ v) where
-  fitting : v.cycle_length ≡ 0 → Fitting (relations_of_tables t) φ v
-  fitting h =
-      ⊎_elim (λ (w : Fitting (relations_of_tables t) φ v). w) (λ (w : Unfitting (relations_of_tables t) φ v). absurd (omega (arith, h, w.some))) is.verdict
+  pub judged-fit : v.cycle ≡ None → (old new : List ℕ) (r : Answer) → Listed fit_text old new r → JudgementWritten t φ old new r
+  judged-fit e old new r l = record {
+    listing = fit_text;
+    allowed = inl (record { fit = subst (λ (q : Option ShownCycle). MatchOption q (Fit (relations_of_tables t) φ) (Unfitting (relations_of_tables t) φ)) e is.verdict; is = refl });
+    listed = l;
+  }
 
-  pub unfitting : v.cycle_length ≢ 0 → Unfitting (relations_of_tables t) φ v
-  unfitting h =
-      ⊎_elim (λ (w : Fitting (relations_of_tables t) φ v). absurd (h w.none)) (λ (w : Unfitting (relations_of_tables t) φ v). w) is.verdict
+  module _ (c : ShownCycle) (e : v.cycle ≡ Some c) where
+    unfitting : Unfitting (relations_of_tables t) φ c
+    unfitting = subst (λ (q : Option ShownCycle). MatchOption q (Fit (relations_of_tables t) φ) (Unfitting (relations_of_tables t) φ)) e is.verdict
 
-  pub judged-fit : (old new : List ℕ) (r : Answer) → v.cycle_length ≡ 0 → Listed fit_text old new r → JudgementWritten t φ old new r
-  judged-fit old new r h l = record { listing = fit_text; allowed = inl (record { fit = (fitting h).fit; is = refl }); listed = l }
+    pub judged-unfit : (old new : List ℕ) (r : Answer) → Listed (unfit_text t.messages (walk_steps v.waits c.length c.messages)) old new r → JudgementWritten t φ old new r
+    judged-unfit old new r l =
+        let ms = cycle_of c in
+        record {
+          listing = unfit_text t.messages (steps_around (word_in v.waits) ms);
+          allowed =
+              inr (record {
+                unfit = (shown-is-real (relations_of_tables t)).1 φ ms unfitting.cycle;
+                cycle = ms;
+                shown = unfitting.cycle;
+                steps = steps_around (word_in v.waits) ms;
+                said = shows-all (relations_of_tables t) φ v.waits is.waits ms unfitting.cycle.closed;
+                is = refl;
+              });
+          listed = l;
+        }
 
-  pub judged-unfit : (old new : List ℕ) (r : Answer) → v.cycle_length ≢ 0 → Listed (unfit_text t.messages (walk_steps v.waits v.cycle_length v.cycle)) old new r → JudgementWritten t φ old new r
-  judged-unfit old new r h l =
-      let w = unfitting h in
-      let ms = first_messages v.cycle_length v.cycle in
-      record {
-        listing = unfit_text t.messages (steps_around (word_in v.waits) ms);
-        allowed =
-            inr (record {
-              unfit = (shown-is-real (relations_of_tables t)).1 φ ms w.cycle;
-              cycle = ms;
-              shown = w.cycle;
-              steps = steps_around (word_in v.waits) ms;
-              said = shows-all (relations_of_tables t) φ v.waits is.waits ms w.cycle.closed;
-              is = refl;
-            });
-        listed = l;
-      }
-
-  -- what the listing of an unfit mapping asks for
-  pub walk-given : v.cycle_length ≢ 0 → GivenWalk v.cycle_length v.cycle
-  walk-given h = let w = unfitting h in record { some = w.some; few = w.stored.few; messages = w.stored.messages }
+    -- what the listing of an unfit mapping asks for
+    pub walk-given : GivenWalk c.length c.messages
+    walk-given = record { some = unfitting.some; few = unfitting.stored.few; messages = unfitting.stored.messages }
 
 -- ---- the mapping
 

@@ -18,13 +18,12 @@ fn judge_tables(t: Tables, networks: [Network; tables::MESSAGES], out: &mut [u8]
     ensures { JudgementWritten t (mapping_of_lem networks) out.old out.new result }
 {
     let found = verdicts::judgement::judge_of(t, networks);
-    if found.cycle_length == 0 {
+    let Some(cycle) = found.cycle else {
         return judge_listing::fit::fit_listing(out);
-    }
+    };
     let messages = t.messages;
-    let cycle = found.cycle;
     let waits = found.waits;
-    judge_listing::unfit_listing(messages, cycle, found.cycle_length, waits, out)
+    judge_listing::unfit_listing(messages, cycle.messages, cycle.length, waits, out)
 }
 
 // The judgement of a mapping text for a protocol's tables.

@@ -1,9 +1,8 @@
 -- What was found out and written is a plan.
-use Prim.Native.Nat.{ℕ, ◌≤◌}
+use Prim.Native.Nat.{ℕ}
 use mathlib.Core.Path.{◌≡◌, refl, ap, sym, ◌∙◌, subst}
-use mathlib.Core.Logic.{◌≢◌, inl, inr, ⊎_elim}
+use mathlib.Core.Logic.{◌≢◌, inl, inr}
 use mathlib.Core.List.{List}
-use native.Mathlib.Omega.{arith}
 use lib.ListN.{take}
 use Rattle.tables.specs.declared.Tables.{Tables}
 use Rattle.tables.specs.Cells.{relations_of_tables}
@@ -11,52 +10,45 @@ use Rattle.protocol.specs.whole.Whole.{Reading}
 use Rattle.protocol.specs.Reading.{read_protocol_lem}
 use Rattle.answers.specs.declared.Answer.{Answer}
 use Rattle.answers.specs.Answers.{refused_at_lem, Listed}
-use Rattle.plan_listing.specs.PlanText.{class_three, class_two, first_messages, first_networks, MessagesBelow}
+use Rattle.plan_listing.specs.PlanText.{class_three, class_two, first_networks}
+use Rattle.rules.specs.declared.Network.{Network}
+use Rattle.verdicts.specs.declared.ShownCycle.{ShownCycle}
 use Rattle.verdicts.specs.declared.PlanFound.{PlanFound}
-use Rattle.verdicts.specs.Verdicts.{ThreeFound, TwoFound, PlanIs}
+use Rattle.verdicts.specs.declared.PlanFound.TheVariants.{Ranked, Cyclic}
+use Rattle.verdicts.specs.Verdicts.{cycle_of, ThreeFound, TwoFound, PlanIs}
 use Rattle.plan.specs.Call.{PlanWritten, PlanCall}
 
 module _ (t : Tables) (v : PlanFound) (is : PlanIs (relations_of_tables t) v) where
-  -- there is a count only in class 3
-  three : v.count ≢ 0 → ThreeFound (relations_of_tables t) v
-  three h = ⊎_elim (λ (w : ThreeFound (relations_of_tables t) v). w) (λ (w : TwoFound (relations_of_tables t) v). absurd (h w.none)) is
+  module _ (count : ℕ) (networks : List Network) (e : v ≡ Ranked count networks) where
+    pub three : ThreeFound (relations_of_tables t) count networks
+    three = subst (PlanIs (relations_of_tables t)) e is
 
-  two : v.count ≡ 0 → TwoFound (relations_of_tables t) v
-  two h = ⊎_elim (λ (w : ThreeFound (relations_of_tables t) v). absurd (omega (arith, h, w.some))) (λ (w : TwoFound (relations_of_tables t) v). w) is
+    pub planned-three : (old new : List ℕ) (r : Answer) → Listed (class_three (take t.message_count t.messages) (first_networks t.message_count networks) count) old new r
+        → PlanWritten t old new r
+    planned-three old new r l = record {
+      listing = class_three (take t.message_count t.messages) (first_networks t.message_count networks) count;
+      allowed =
+          inl (record {
+            networks = first_networks t.message_count networks;
+            count = count;
+            long = three.long;
+            printed = three.printed;
+            least = three.least;
+            is = refl;
+          });
+      listed = l;
+    }
 
-  pub planned-three : (old new : List ℕ) (r : Answer) → v.count ≢ 0
-      → Listed (class_three (take t.message_count t.messages) (first_networks t.message_count v.networks) v.count) old new r
-      → PlanWritten t old new r
-  planned-three old new r h l =
-      let w = three h in
-      record {
-        listing = class_three (take t.message_count t.messages) (first_networks t.message_count v.networks) v.count;
-        allowed =
-            inl (record {
-              networks = first_networks t.message_count v.networks;
-              count = v.count;
-              long = w.long;
-              printed = w.printed;
-              least = w.least;
-              is = refl;
-            });
-        listed = l;
-      }
+  module _ (c : ShownCycle) (e : v ≡ Cyclic c) where
+    pub two : TwoFound (relations_of_tables t) c
+    two = subst (PlanIs (relations_of_tables t)) e is
 
-  pub planned-two : (old new : List ℕ) (r : Answer) → v.count ≡ 0 → Listed (class_two t.messages (first_messages v.cycle_length v.cycle)) old new r → PlanWritten t old new r
-  planned-two old new r h l =
-      record {
-        listing = class_two t.messages (first_messages v.cycle_length v.cycle);
-        allowed = inr (record { cycle = first_messages v.cycle_length v.cycle; shown = (two h).cycle; is = refl });
-        listed = l;
-      }
-
-  -- what the listings ask for
-  pub three-asked : v.count ≢ 0 → v.count ≤ 64
-  three-asked h = (three h).few
-
-  pub two-asked : v.count ≡ 0 → (v.cycle_length ≤ 64) × MessagesBelow v.cycle_length (first_messages v.cycle_length v.cycle)
-  two-asked h = ((two h).stored.few, (two h).stored.messages)
+    pub planned-two : (old new : List ℕ) (r : Answer) → Listed (class_two t.messages (cycle_of c)) old new r → PlanWritten t old new r
+    planned-two old new r l = record {
+      listing = class_two t.messages (cycle_of c);
+      allowed = inr (record { cycle = cycle_of c; shown = two.cycle; is = refl });
+      listed = l;
+    }
 
 -- ---- the call
 

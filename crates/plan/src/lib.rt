@@ -9,6 +9,7 @@ ghost use Rattle.plan.specs.Call.{PlanWritten, PlanCall};
 
 use answers::Answer;
 use tables::Tables;
+use verdicts::PlanFound;
 
 // The plan of a protocol's tables, written to the output if there is room for it.
 fn plan_tables(t: Tables, out: &mut [u8]) -> Answer
@@ -17,18 +18,14 @@ fn plan_tables(t: Tables, out: &mut [u8]) -> Answer
 {
     let found = verdicts::plan_of(t);
     let messages = t.messages;
-    if found.count != 0 {
-        let networks = found.networks;
-        return plan_listing::maps::map_listing(
-            messages,
-            t.message_count,
-            networks,
-            found.count,
-            out,
-        );
+    match found {
+        PlanFound::Ranked { count, networks } => {
+            plan_listing::maps::map_listing(messages, t.message_count, networks, count, out)
+        }
+        PlanFound::Cyclic(cycle) => {
+            plan_listing::cycle::cycle_listing(messages, cycle.messages, cycle.length, out)
+        }
     }
-    let cycle = found.cycle;
-    plan_listing::cycle::cycle_listing(messages, cycle, found.cycle_length, out)
 }
 
 // The plan of a protocol text.

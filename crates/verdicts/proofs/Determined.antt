@@ -1,7 +1,6 @@
 -- The contracts of this crate leave one plan, and one judgement.
 use Prim.Native.Nat.{ℕ, ◌-◌}
 use mathlib.Core.Path.{◌≡◌, refl, sym, ap, ap₂, ◌∙◌}
-use mathlib.Core.Logic.{◌⊎◌, inl, inr}
 use mathlib.Core.List.{List, [], ◌∷◌, ◌++◌, map}
 use native.Mathlib.Omega.{arith}
 use lib.ListN.{length, get_or, take, replicate, take-append-drop}
@@ -9,17 +8,19 @@ use lib.Seq.{ext_get_or}
 use Rattle.determined.specs.Determined.{Determines}
 use Rattle.rules.specs.declared.Message.{Message}
 use Rattle.rules.specs.declared.Network.{Network}
-use Rattle.rules.specs.Rules.{Relations, Mapping}
+use Rattle.rules.specs.Rules.{Relations, Mapping, Fit}
 use Rattle.rules.proofs.Promises.{determined, one_class, shown-is-real}
 use Rattle.rows.specs.Determined.{Words}
 use Rattle.rows.proofs.Determined.{words-one}
 use Rattle.tables.specs.declared.Tables.{Tables}
 use Rattle.tables.specs.Cells.{relations_of_tables, number as message_number}
 use Rattle.plan_listing.specs.PlanText.{network_number, first_messages, first_networks}
-use Rattle.verdicts.specs.declared.PlanFound.{PlanFound}
+use Rattle.std.specs.Prelude.{Option, Some, None, MatchOption}
+use Rattle.verdicts.specs.declared.ShownCycle.{ShownCycle}
+use Rattle.verdicts.specs.declared.PlanFound.TheVariants.{Ranked, Cyclic}
 use Rattle.verdicts.specs.declared.JudgementFound.{JudgementFound}
 use Rattle.rules.specs.Numbers.{as_message, as_network}
-use Rattle.verdicts.specs.Verdicts.{cleared_message, NetworksPast, StoredCycle, PlanIs, ThreeFound, TwoFound, mapping_of_lem, Fitting, Unfitting, JudgementIs}
+use Rattle.verdicts.specs.Verdicts.{cleared_message, NetworksPast, StoredCycle, cycle_of, PlanIs, ThreeFound, TwoFound, mapping_of_lem, Unfitting, JudgementIs}
 
 -- ---- arrays, by their first numbers and what is past them
 
@@ -49,63 +50,57 @@ stored_one j k l m p q f =
           ∙ take-append-drop k m,
     )
 
+same-cycle : (c d : ShownCycle) → StoredCycle c.length c.messages → StoredCycle d.length d.messages → cycle_of c ≡ cycle_of d → c ≡ d
+same-cycle c d p q f =
+    let e = stored_one c.length d.length c.messages d.messages p q f in
+    let t : ◌≡◌ {A = ShownCycle} (record { length = c.length; messages = c.messages }) (record { length = d.length; messages = d.messages }) = remade e.0 e.1 in
+    t
+  where
+    remade : {j k : ℕ} {l m : List Message} → j ≡ k → l ≡ m → ◌≡◌ {A = ShownCycle} (record { length = j; messages = l }) (record { length = k; messages = m })
+    remade a b = cc
+
 -- ---- a plan
 
-same-plan : (r s : PlanFound) → r.count ≡ s.count → r.networks ≡ s.networks → r.cycle_length ≡ s.cycle_length → r.cycle ≡ s.cycle → r ≡ s
-same-plan r s a b c d =
-    let t : ◌≡◌ {A = PlanFound}
-    (record { count = r.count; networks = r.networks; cycle_length = r.cycle_length; cycle = r.cycle })
-    (record { count = s.count; networks = s.networks; cycle_length = s.cycle_length; cycle = s.cycle }) = cc
-    in t
-
-module _ (p : Relations) (r s : PlanFound) where
-  three-one : ThreeFound p r → ThreeFound p s → r ≡ s
-  three-one f g =
-      same-plan r s (determined.least_count p r.count s.count f.least g.least)
-      (networks-one p.count r.networks s.networks first f.networks_past g.networks_past) (f.no_length ∙ sym g.no_length) (f.no_cycle ∙ sym g.no_cycle)
+module _ (p : Relations) where
+  three-one : (j k : ℕ) (l m : List Network) → ThreeFound p j l → ThreeFound p k m → Ranked j l ≡ Ranked k m
+  three-one j k l m f g = ap₂ Ranked (determined.least_count p j k f.least g.least) (networks-one p.count l m first f.networks_past g.networks_past)
     where
-      first : first_networks p.count r.networks ≡ first_networks p.count s.networks
+      first : first_networks p.count l ≡ first_networks p.count m
       first =
-          ext_get_or 0 (first_networks p.count r.networks) (first_networks p.count s.networks) (f.long ∙ sym g.long)
-          (λ i h. determined.mapping p (λ m. get_or (first_networks p.count r.networks) m 0) (λ m. get_or (first_networks p.count s.networks) m 0) f.printed g.printed i (omega (arith, f.long)))
+          ext_get_or 0 (first_networks p.count l) (first_networks p.count m) (f.long ∙ sym g.long)
+          (λ i h. determined.mapping p (λ i. get_or (first_networks p.count l) i 0) (λ i. get_or (first_networks p.count m) i 0) f.printed g.printed i (omega (arith, f.long)))
 
-  two-one : TwoFound p r → TwoFound p s → r ≡ s
-  two-one f g =
-      let c = stored_one r.cycle_length s.cycle_length r.cycle s.cycle f.stored g.stored
-      (determined.plan_cycle p (first_messages r.cycle_length r.cycle) (first_messages s.cycle_length s.cycle) f.cycle g.cycle) in
-      same-plan r s (f.none ∙ sym g.none) (f.no_networks ∙ sym g.no_networks) c.0 c.1
+  two-one : (c d : ShownCycle) → TwoFound p c → TwoFound p d → Cyclic c ≡ Cyclic d
+  two-one c d f g = ap Cyclic (same-cycle c d f.stored g.stored (determined.plan_cycle p (cycle_of c) (cycle_of d) f.cycle g.cycle))
 
-plan-one : (p : Relations) → Determines (PlanIs p)
-plan-one p r s (inl f) (inl g) = three-one p r s f g
-plan-one p r s (inl f) (inr g) = absurd (one_class p (first_messages s.cycle_length s.cycle) r.count g.cycle f.least)
-plan-one p r s (inr f) (inl g) = absurd (one_class p (first_messages r.cycle_length r.cycle) s.count f.cycle g.least)
-plan-one p r s (inr f) (inr g) = two-one p r s f g
+  plan-one : Determines (PlanIs p)
+  plan-one (Ranked j l) (Ranked k m) f g = three-one j k l m f g
+  plan-one (Ranked j l) (Cyclic d) f g = absurd (one_class p (cycle_of d) j g.cycle f.least)
+  plan-one (Cyclic c) (Ranked k m) f g = absurd (one_class p (cycle_of c) k f.cycle g.least)
+  plan-one (Cyclic c) (Cyclic d) f g = two-one c d f g
 
 pub plan-of-determined : (t : Tables) → Determines (PlanIs (relations_of_tables t))
 plan-of-determined t = plan-one (relations_of_tables t)
 
 -- ---- a judgement
 
-same-judgement : (r s : JudgementFound) → r.cycle_length ≡ s.cycle_length → r.cycle ≡ s.cycle → r.waits ≡ s.waits → r ≡ s
-same-judgement r s a b c =
+same-judgement : (r s : JudgementFound) → r.cycle ≡ s.cycle → r.waits ≡ s.waits → r ≡ s
+same-judgement r s a b =
     let t : ◌≡◌ {A = JudgementFound}
-    (record { cycle_length = r.cycle_length; cycle = r.cycle; waits = r.waits })
-    (record { cycle_length = s.cycle_length; cycle = s.cycle; waits = s.waits }) = cc
+    (record { cycle = r.cycle; waits = r.waits })
+    (record { cycle = s.cycle; waits = s.waits }) = cc
     in t
 
-module _ (p : Relations) (φ : Mapping) (r s : JudgementFound) where
-  cycle-one : Fitting p φ r ⊎ Unfitting p φ r → Fitting p φ s ⊎ Unfitting p φ s → (r.cycle_length ≡ s.cycle_length) × (r.cycle ≡ s.cycle)
-  cycle-one (inl f) (inl g) = (f.none ∙ sym g.none, f.no_cycle ∙ sym g.no_cycle)
-  cycle-one (inl f) (inr g) = absurd (f.fit ((shown-is-real p).1 φ (first_messages s.cycle_length s.cycle) g.cycle))
-  cycle-one (inr f) (inl g) = absurd (g.fit ((shown-is-real p).1 φ (first_messages r.cycle_length r.cycle) f.cycle))
-  cycle-one (inr f) (inr g) =
-      stored_one r.cycle_length s.cycle_length r.cycle s.cycle f.stored g.stored
-      (determined.judge_cycle p φ (first_messages r.cycle_length r.cycle) (first_messages s.cycle_length s.cycle) f.cycle g.cycle)
+module _ (p : Relations) (φ : Mapping) where
+  cycle-one : (q o : Option ShownCycle) → MatchOption q (Fit p φ) (Unfitting p φ) → MatchOption o (Fit p φ) (Unfitting p φ) → q ≡ o
+  cycle-one None None f g = refl
+  cycle-one None (Some d) f g = absurd (f ((shown-is-real p).1 φ (cycle_of d) g.cycle))
+  cycle-one (Some c) None f g = absurd (g ((shown-is-real p).1 φ (cycle_of c) f.cycle))
+  cycle-one (Some c) (Some d) f g = ap Some (same-cycle c d f.stored g.stored (determined.judge_cycle p φ (cycle_of c) (cycle_of d) f.cycle g.cycle))
 
   -- their rows are arrays of words
-  judgement-one : Words 64 64 r.waits → Words 64 64 s.waits → JudgementIs p φ r → JudgementIs p φ s → r ≡ s
-  judgement-one u v f g =
-      let c = cycle-one f.verdict g.verdict in same-judgement r s c.0 c.1 (words-one 64 64 _ r.waits s.waits u v f.waits g.waits)
+  judgement-one : (r s : JudgementFound) → Words 64 64 r.waits → Words 64 64 s.waits → JudgementIs p φ r → JudgementIs p φ s → r ≡ s
+  judgement-one r s u v f g = same-judgement r s (cycle-one r.cycle s.cycle f.verdict g.verdict) (words-one 64 64 _ r.waits s.waits u v f.waits g.waits)
 
 pub judge-of-determined : (t : Tables) (networks : List Network)
     → Determines (λ (r : JudgementFound). Words 64 64 r.waits × JudgementIs (relations_of_tables t) (mapping_of_lem networks) r)

@@ -8,10 +8,11 @@ use lib.Seq.{length-take-le}
 use Rattle.rules.specs.declared.Message.{Message}
 use Rattle.rules.proofs.Cycle.{All<, closed-small}
 use Rattle.rows.specs.Rows.{Rows}
-use Rattle.walks.specs.Walks.{Cycle}
+use Rattle.walks.specs.Walks.{CycleWritten}
+use Rattle.rules.specs.Plan.{Closed}
 use Rattle.plan_listing.specs.PlanText.{first_messages, first_networks, MessagesBelow}
 use Rattle.rules.specs.Numbers.{as_message, as_network}
-use Rattle.verdicts.specs.Verdicts.{MessagesPast, StoredCycle}
+use Rattle.verdicts.specs.Verdicts.{StoredCycle}
 
 -- ---- the first numbers
 
@@ -56,21 +57,26 @@ all-at n [] a i h = absurd (omega arith)
 all-at n (x ∷ l) a zero h = a.0
 all-at n (x ∷ l) a (suc i) h = all-at n l a.1 i (omega arith)
 
-module _ (n : ℕ) (few : n ≤ 64) (w s new : List ℕ) (len : ℕ) (c : Cycle w s n (replicate 64 0) new len) (cycle : List Message) (is : cycle ≡ map as_message new) where
+module _ (n : ℕ) (few : n ≤ 64) (w s new : List ℕ) (len : ℕ) (long : length new ≡ 64) (c : CycleWritten w s n (replicate 64 0) new len) (cycle : List Message) (is : cycle ≡ map as_message new) where
   pub cycle-first : first_messages len cycle ≡ take len new
   cycle-first = ap (first_messages len) is ∙ messages-first len new
 
   take_long : length (take len new) ≡ len
-  take_long = length-take-le len new (omega (arith, c.fits, c.long))
+  take_long = length-take-le len new (omega (arith, c.fits, long))
 
-  messages-below : ¬ (len ≡ 0) → MessagesBelow len (first_messages len cycle)
-  messages-below g i h =
-      let a = closed-small n (Rows n w) (Rows n s) (λ a b r. (r.i_below, r.j_below)) (take len new) (c.shown g).closed in
+  messages-below : MessagesBelow len (first_messages len cycle)
+  messages-below i h =
+      let a = closed-small n (Rows n w) (Rows n s) (λ a b r. (r.i_below, r.j_below)) (take len new) c.shown.closed in
       let b = all-at n (take len new) a i (omega (arith, take_long)) in
       subst (λ (l : List ℕ). get_or l i 0 < 64) (sym cycle-first) (omega (arith, b))
 
-  pub cycle-past : MessagesPast len cycle
-  cycle-past = ap (drop len) is ∙ past as_message len 64 new c.rest
+  -- a closed walk has a message
+  pub cycle-some : 0 < len
+  cycle-some = go len c.shown.closed
+    where
+      go : (k : ℕ) → Closed (Rows n w) (Rows n s) (take k new) → 0 < k
+      go zero x = absurd x
+      go (suc k) x = omega arith
 
-  pub cycle-stored : ¬ (len ≡ 0) → StoredCycle len cycle
-  cycle-stored g = record { few = omega (arith, c.fits); long = ap length cycle-first ∙ take_long; messages = messages-below g; past = cycle-past }
+  pub cycle-stored : StoredCycle len cycle
+  cycle-stored = record { few = omega (arith, c.fits); long = ap length cycle-first ∙ take_long; messages = messages-below; past = ap (drop len) is ∙ past as_message len 64 new c.rest }

@@ -1,5 +1,5 @@
 -- What is found out about a protocol's tables: a plan, and the judgement of a mapping.
-use Rattle.std.specs.Prelude.{ℕ, ◌-◌, ◌<◌, ◌≤◌, ◌≡◌, ◌⊎◌, ◌↔◌, List, length, get_or, drop, replicate}
+use Rattle.std.specs.Prelude.{ℕ, ◌-◌, ◌<◌, ◌≤◌, ◌≡◌, ◌↔◌, MatchOption, List, length, get_or, drop, replicate}
 use Rattle.rules.specs.declared.Message.{Message}
 use Rattle.rules.specs.declared.Network.{Network}
 use Rattle.rules.specs.Rules.{MessageNo, Relations, Mapping, Waits, Fit}
@@ -8,7 +8,9 @@ use Rattle.rows.specs.Rows.{Bit}
 pub use Rattle.waits.specs.steps.Steps.{mapping_of_lem}
 use Rattle.plan_listing.specs.PlanText.{first_messages, first_networks, MessagesBelow}
 use Rattle.rules.specs.Numbers.{as_message, as_network}
+use Rattle.verdicts.specs.declared.ShownCycle.{ShownCycle}
 use Rattle.verdicts.specs.declared.PlanFound.{PlanFound}
+use Rattle.verdicts.specs.declared.PlanFound.TheVariants.{Ranked, Cyclic}
 use Rattle.verdicts.specs.declared.JudgementFound.{JudgementFound}
 
 -- ---- the rows of waits
@@ -40,45 +42,40 @@ pub record StoredCycle (count : ℕ) (cycle : List Message) : Type 0 where
   pub messages : MessagesBelow count (first_messages count cycle)
   pub past : MessagesPast count cycle
 
+-- The messages of a shown cycle.
+abbrev pub cycle_of : ShownCycle → List MessageNo
+cycle_of c = first_messages c.length c.messages
+
 -- ---- a plan
 
--- Class 3: the least count, and the printed mapping. There is no cycle.
-pub record ThreeFound (p : Relations) (r : PlanFound) : Type 0 where
-  pub some : 0 < r.count
-  pub few : r.count ≤ 64
-  pub long : length (first_networks p.count r.networks) ≡ p.count
-  pub printed : Printed p (λ m. get_or (first_networks p.count r.networks) m 0)
-  pub least : LeastCount p r.count
-  pub networks_past : NetworksPast p.count r.networks
-  pub no_length : r.cycle_length ≡ 0
-  pub no_cycle : MessagesPast 0 r.cycle
+-- Class 3: the least count, and the printed mapping.
+pub record ThreeFound (p : Relations) (count : ℕ) (networks : List Network) : Type 0 where
+  pub some : 0 < count
+  pub few : count ≤ 64
+  pub long : length (first_networks p.count networks) ≡ p.count
+  pub printed : Printed p (λ m. get_or (first_networks p.count networks) m 0)
+  pub least : LeastCount p count
+  pub networks_past : NetworksPast p.count networks
 
--- Class 2: the shown cycle of waits steps. There are no networks.
-pub record TwoFound (p : Relations) (r : PlanFound) : Type 0 where
-  pub none : r.count ≡ 0
-  pub stored : StoredCycle r.cycle_length r.cycle
-  pub cycle : PlanCycle p (first_messages r.cycle_length r.cycle)
-  pub no_networks : NetworksPast 0 r.networks
+-- Class 2: the shown cycle of waits steps.
+pub record TwoFound (p : Relations) (c : ShownCycle) : Type 0 where
+  pub stored : StoredCycle c.length c.messages
+  pub cycle : PlanCycle p (cycle_of c)
 
 -- r is the plan of the relations p.
 abbrev pub PlanIs : Relations → PlanFound → Type 0
-PlanIs p r = ThreeFound p r ⊎ TwoFound p r
+PlanIs p (Ranked count networks) = ThreeFound p count networks
+PlanIs p (Cyclic c) = TwoFound p c
 
 -- ---- a judgement
 
 -- Unfit, with the shown cycle.
-pub record Unfitting (p : Relations) (φ : Mapping) (r : JudgementFound) : Type 0 where
-  pub some : 0 < r.cycle_length
-  pub stored : StoredCycle r.cycle_length r.cycle
-  pub cycle : JudgeCycle p φ (first_messages r.cycle_length r.cycle)
+pub record Unfitting (p : Relations) (φ : Mapping) (c : ShownCycle) : Type 0 where
+  pub some : 0 < c.length
+  pub stored : StoredCycle c.length c.messages
+  pub cycle : JudgeCycle p φ (cycle_of c)
 
--- Fit. There is no cycle.
-pub record Fitting (p : Relations) (φ : Mapping) (r : JudgementFound) : Type 0 where
-  pub none : r.cycle_length ≡ 0
-  pub fit : Fit p φ
-  pub no_cycle : MessagesPast 0 r.cycle
-
--- r is the judgement of the mapping φ for the relations p.
+-- r is the judgement of the mapping φ for the relations p: fit where there is no cycle, else unfit with the shown one.
 pub record JudgementIs (p : Relations) (φ : Mapping) (r : JudgementFound) : Type 0 where
-  pub verdict : Fitting p φ r ⊎ Unfitting p φ r
+  pub verdict : MatchOption r.cycle (Fit p φ) (Unfitting p φ)
   pub waits : WaitsOf p r.waits

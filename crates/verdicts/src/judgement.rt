@@ -5,26 +5,28 @@ ghost use Rattle.walks.specs.Walks.{Within};
 ghost use Rattle.verdicts.specs.Verdicts.{mapping_of_lem, JudgementIs};
 ghost use Rattle.verdicts.specs.judgement.Judging.{JudgementOfRows};
 
-use crate::JudgementFound;
+use crate::{JudgementFound, ShownCycle};
 use rules::Network;
 use tables::Tables;
 
 // The judgement that the rows give: the shown cycle begins with a waits step.
 fn judge_of_rows(
     waits: [u64; tables::MESSAGES],
-    steps: [u64; tables::MESSAGES],
+    steps: &[u64; tables::MESSAGES],
     n: usize,
 ) -> JudgementFound
-    requires { (n ≤ 64) × Within n waits steps }
-    ensures { JudgementOfRows waits steps n result }
+    requires { (n ≤ 64) × Within n waits steps.now }
+    ensures { JudgementOfRows waits steps.now n result }
 {
     let mut sets = [0u64; tables::MESSAGES];
     let mut numbers = [0u8; tables::MESSAGES];
-    let cycle_length = walks::cycles::cycle(&waits, &steps, n, &mut sets, &mut numbers);
-    let cycle = crate::messages_of(numbers);
+    let found = walks::cycles::cycle(&waits, steps, n, &mut sets, &mut numbers);
+    let messages = crate::messages_of(numbers);
     JudgementFound {
-        cycle_length: cycle_length,
-        cycle: cycle,
+        cycle: found.map(|length| ShownCycle {
+            length: length,
+            messages: messages,
+        }),
         waits: waits,
     }
 }
@@ -39,5 +41,5 @@ pub fn judge_of(t: Tables, networks: [Network; tables::MESSAGES]) -> JudgementFo
     let stalls = table_rows::stalls::stalls_rows(t);
     let waits = waits::waits_of(&mut causes, &stalls, n);
     let steps = waits::steps::steps_of(waits, stalls, networks, n);
-    judge_of_rows(waits, steps, n)
+    judge_of_rows(waits, &steps, n)
 }

@@ -3,11 +3,17 @@ use Rattle.verdicts.specs.Verdicts.{mapping_of_lem}
 use Rattle.judge.proofs.JudgeLaws.{judged-fit, judged-unfit, walk-given}
 use Rattle.judge.proofs.judge_tables.Goals as goal
 
-pub returns-then-found-eq0 : goal.returns-then-found-eq0
-returns-then-found-eq0 c = judged-fit c.args.t (mapping_of_lem c.args.networks) c.judge_of-found.result c.judge_of-found.ensures _ _ _ c.if-found-eq0.true c.fit_listing.ensures
+pub returns-in_default : goal.returns-in_default
+returns-in_default c =
+    let f = c.judge_of-found in
+    judged-fit c.args.t (mapping_of_lem c.args.networks) f.result f.ensures c.in_default.is _ _ _ c.fit_listing.ensures
 
 pub unfit_listing-requires : goal.unfit_listing-requires
-unfit_listing-requires c = walk-given c.args.t (mapping_of_lem c.args.networks) c.judge_of-found.result c.judge_of-found.ensures c.if-found-eq0.false
+unfit_listing-requires c =
+    let f = c.judge_of-found in
+    walk-given c.args.t (mapping_of_lem c.args.networks) f.result f.ensures c.in-Some.cycle c.in-Some.is
 
 pub returns : goal.returns
-returns c = judged-unfit c.args.t (mapping_of_lem c.args.networks) c.judge_of-found.result c.judge_of-found.ensures _ _ _ c.if-found-eq0.false c.unfit_listing.ensures
+returns c =
+    let f = c.judge_of-found in
+    judged-unfit c.args.t (mapping_of_lem c.args.networks) f.result f.ensures c.in-Some.cycle c.in-Some.is _ _ _ c.unfit_listing.ensures

@@ -1,14 +1,13 @@
 -- The shown cycle of the rows of steps is the judgement of a mapping.
 use Prim.Native.Nat.{ℕ, ◌<◌, ◌≤◌}
 use mathlib.Core.Path.{◌≡◌, sym, subst}
-use mathlib.Core.Logic.{◌⊎◌, inl, inr, ⊎_elim, ◌↔◌}
+use mathlib.Core.Logic.{inl, inr, ⊎_elim, ◌↔◌}
 use mathlib.Core.List.{List, [], ◌∷◌, ◌++◌, map}
-use native.Mathlib.Decide.{ℕ_discrete}
 use native.Mathlib.Omega.{arith}
 use lib.ListN.{get_or, take, replicate}
 use Rattle.rules.specs.declared.Message.{Message}
 use Rattle.rules.specs.Walks.{Rel, Begins}
-use Rattle.rules.specs.Rules.{Relations, Mapping, Waits, Queues, Step}
+use Rattle.rules.specs.Rules.{Relations, Mapping, Waits, Queues, Step, Fit}
 use Rattle.rules.specs.Plan.{Closed, JudgeCycle}
 use Rattle.rules.specs.Promises.{Accepted}
 use Rattle.rules.proofs.Chains.{chain-map}
@@ -21,11 +20,14 @@ use Rattle.tables.specs.Cells.{relations_of_tables, TablesOk}
 use Rattle.tables.specs.Relations.{StallsRows}
 use Rattle.tables.proofs.InRange.{relations-accepted, rows-stalls}
 use Rattle.rules.specs.Numbers.{as_message}
-use Rattle.verdicts.specs.Verdicts.{WaitsOf, MessagesPast, Fitting, Unfitting}
+use Rattle.std.specs.Option.{option_map}
+use Rattle.std.specs.Prelude.{Option, Some, None, MatchOption}
+use Rattle.verdicts.specs.declared.ShownCycle.{ShownCycle}
+use Rattle.verdicts.specs.Verdicts.{WaitsOf, Unfitting}
 use Rattle.waits.specs.steps.Steps.{StepsRows}
 use Rattle.verdicts.specs.judgement.Judging.{StepsTold, JudgementOfRows}
 use Rattle.verdicts.proofs.Waiting.{rows-waits}
-use Rattle.verdicts.proofs.Written.{cycle-first, cycle-past, cycle-stored}
+use Rattle.verdicts.proofs.Written.{cycle-first, cycle-some, cycle-stored}
 
 -- ---- the rows of steps are those of the rules
 
@@ -59,6 +61,10 @@ steps-within waits stalls φ n steps f a b r = record { i_below = r.i_below; j_b
 
 -- ---- the verdict
 
+-- the cycle of these messages, where there is a length
+abbrev pub shown_of : List Message → Option ℕ → Option ShownCycle
+shown_of messages q = option_map (λ len. record { length = len; messages = messages }) q
+
 begins-map : (R S : Rel) → ((a b : ℕ) → R a b → S a b) → (a : ℕ) (l : List ℕ) → Begins R a l → Begins S a l
 begins-map R S f a [] b = b
 begins-map R S f a (x ∷ l) b = f a x b
@@ -72,34 +78,23 @@ module _ (p : Relations) (acc : Accepted p) (few : p.count ≤ 64) (φ : Mapping
   same-steps : (a b : ℕ) → Rows p.count steps a b ↔ Step p φ a b
   same-steps a b = (λ r. (s a b r.i_below).0 r.bit, λ x. let h = step-within p acc φ a b x in record { i_below = h.0; j_below = h.1; bit = (s a b h.0).1 x })
 
-  module _ (new : List ℕ) (len : ℕ) (c : Cycle waits steps p.count (replicate 64 0) new len) (cycle : List Message) (is : cycle ≡ map as_message new) where
-    verdict : Fitting p φ (record { cycle_length = len; cycle = cycle; waits = waits }) ⊎ Unfitting p φ (record { cycle_length = len; cycle = cycle; waits = waits })
-    verdict = go (ℕ_discrete len 0)
-      where
-        go : Dec (len ≡ 0) → Fitting p φ (record { cycle_length = len; cycle = cycle; waits = waits }) ⊎ Unfitting p φ (record { cycle_length = len; cycle = cycle; waits = waits })
-        go (yes z) = inl (
-            record {
-              none = z;
-              fit =
-                  λ u. let k = unfit-closed p φ u in
-                  c.none z k.0
-                  (closed-map (Waits p) (Rows p.count waits) (Step p φ) (Rows p.count steps) (λ a b. (rows-waits p acc waits w a b).1) (λ a b. (same-steps a b).1) k.0 k.1);
-              no_cycle = subst (λ (i : ℕ). MessagesPast i cycle) z (cycle-past p.count few waits steps new len c cycle is);
-            }
-            )
-        go (no g) = inr (
-            record {
-              some = omega arith;
-              stored = cycle-stored p.count few waits steps new len c cycle is g;
-              cycle =
-                  subst (JudgeCycle p φ) (sym (cycle-first p.count few waits steps new len c cycle is))
-                  (shown-same (Rows p.count waits) (Waits p) (Rows p.count steps) (Step p φ) (rows-waits p acc waits w) same-steps (take len new) (c.shown g));
-            }
-            )
+  module _ (new : List ℕ) (messages : List Message) (is : messages ≡ map as_message new) where
+    verdict : (q : Option ℕ) → Cycle waits steps p.count (replicate 64 0) new q → MatchOption (shown_of messages q) (Fit p φ) (Unfitting p φ)
+    verdict None c =
+        λ u. let k = unfit-closed p φ u in
+        c.told.none k.0
+        (closed-map (Waits p) (Rows p.count waits) (Step p φ) (Rows p.count steps) (λ a b. (rows-waits p acc waits w a b).1) (λ a b. (same-steps a b).1) k.0 k.1)
+    verdict (Some len) c = record {
+      some = cycle-some p.count few waits steps new len c.long c.told messages is;
+      stored = cycle-stored p.count few waits steps new len c.long c.told messages is;
+      cycle =
+          subst (JudgeCycle p φ) (sym (cycle-first p.count few waits steps new len c.long c.told messages is))
+          (shown-same (Rows p.count waits) (Waits p) (Rows p.count steps) (Step p φ) (rows-waits p acc waits w) same-steps (take len new) c.told.shown);
+    }
 
-pub judged : (waits steps : List ℕ) (n : ℕ) → n ≤ 64 → (new : List ℕ) (len : ℕ) → Cycle waits steps n (replicate 64 0) new len → (cycle : List Message) → cycle ≡ map as_message new
-    → JudgementOfRows waits steps n (record { cycle_length = len; cycle = cycle; waits = waits })
-judged waits steps n few new len c cycle is t φ ok some e w s = record {
-  verdict = verdict (relations_of_tables t) (relations-accepted t ok (omega arith)) (omega arith) φ waits steps w s new len (subst (λ (k : ℕ). Cycle waits steps k (replicate 64 0) new len) (sym e) c) cycle is;
+pub judged : (waits steps : List ℕ) (n : ℕ) → n ≤ 64 → (new : List ℕ) (q : Option ℕ) → Cycle waits steps n (replicate 64 0) new q → (messages : List Message) → messages ≡ map as_message new
+    → JudgementOfRows waits steps n (record { cycle = shown_of messages q; waits = waits })
+judged waits steps n few new q c messages is t φ ok some e w s = record {
+  verdict = verdict (relations_of_tables t) (relations-accepted t ok (omega arith)) (omega arith) φ waits steps w s new messages is q (subst (λ (k : ℕ). Cycle waits steps k (replicate 64 0) new q) (sym e) c);
   waits = w;
 }

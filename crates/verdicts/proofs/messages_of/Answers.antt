@@ -1,15 +1,9 @@
 -- `verdicts::messages_of` meets its contract.
-use native.Mathlib.Omega.{arith}
+use mathlib.Core.Path.{ap}
 use borrow.Author.Rules.{rules}
 use Rattle.rules.specs.Numbers.{as_message}
-use Rattle.verdicts.proofs.Turning.{turned_none, turned_more, turned-all}
+use Rattle.verdicts.proofs.Turning.{turned}
 use Rattle.verdicts.proofs.messages_of.Goals as goal
 
-pub loop-i-init : goal.loop-i-init
-loop-i-init c = turned_none as_message c.args.numbers _ (search rules)
-
-pub loop-i-preserved : goal.loop-i-preserved
-loop-i-preserved c = turned_more as_message c.args.numbers c.loop-i.i c.loop-i.messages (omega arith) c.loop-i.invariant
-
 pub returns : goal.returns
-returns c = turned-all as_message c.args.numbers c.loop-i.i c.loop-i.messages (omega arith) c.loop-i.invariant
+returns c = turned as_message c.args.numbers c.map.result 64 (search rules) c.map.ensures.items.long (λ i h. ap as_message (c.map.ensures.items.at i 0 (as_message 0) h).2.met)
