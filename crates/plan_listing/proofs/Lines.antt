@@ -1,25 +1,25 @@
 -- Laws of the lines of a listing: how each grows, and how long it is.
-use mathlib.Core.Path.{◌≡◌, sym, ap, ◌∙◌, subst}
-use mathlib.Core.List.{List, [], ◌∷◌, ◌++◌, map, append_assoc, append-nil}
-use Prim.Native.Nat.{ℕ, zero, suc, ◌+◌, ◌*◌, ◌/◌, ◌≤◌, ◌<◌}
+use mathlib.Core.Path.{◌≡◌, refl, sym, ap, ap₂, ◌∙◌, subst}
+use mathlib.Core.List.{List, [], ◌∷◌, ◌++◌, append_assoc, append-nil}
+use Prim.Native.Nat.{ℕ, zero, suc, ◌+◌, ◌*◌, ◌/◌, ◌≤◌, ◌<◌, min}
 use native.Mathlib.Omega.{arith}
 use native.Mathlib.Numerals.{add-one}
 use native.Mathlib.Nat.{mul-suc}
-use lib.ListN.{length, take, get_or, length-append, get_or-map}
-use lib.Seq.{get_or-take}
+use lib.ListN.{length, take, get_or, length-append, length-take}
+use lib.Seq.{take-length}
+use Rattle.std.proofs.lemmas.List.{get_or_default, get_or-map}
 use Rattle.rules.specs.declared.Message.{Message}
 use Rattle.rules.specs.declared.Network.{Network}
 use Rattle.text.specs.Name.{name_text}
 use Rattle.text.specs.Words.{tab}
 use Rattle.text.specs.Written.{decimal}
-use Rattle.text.proofs.Parts.{get_or-within}
 use Rattle.text.proofs.Written.{decimal-small, length-step}
 use Rattle.tables.specs.declared.MessageRow.{MessageRow}
 use Rattle.tables.specs.declared.Kind.TheVariants.{Req}
 use Rattle.tables.specs.Tables.{no_message_row}
 use Rattle.mapping.specs.Text.{map_fields, map_texts}
 use Rattle.tables.specs.Cells.{number as message_number}
-use Rattle.plan_listing.specs.PlanText.{number_line, class_head, map_text, class_three, name_at, names_text, cycle_line, class_two, first_messages, first_networks, MessagesBelow}
+use Rattle.plan_listing.specs.PlanText.{number_line, class_head, map_text, class_three, name_at, names_text, cycle_line, class_two, message_numbers, network_numbers, first_messages, first_networks, MessagesBelow, HaveRows}
 use Rattle.plan_listing.specs.Lengths.{TextLength}
 use Rattle.plan_listing.proofs.Growing.{grows}
 
@@ -69,19 +69,44 @@ module _ (d : MessageRow) (e : Network) where
       let first = map_text (name_text m.name) n.0 in
       ap (λ (l : List ℕ). first ++ l) (maps-suc ms ns i (omega arith) (omega arith)) ∙ sym (append_assoc first (maps_to ms ns i) (map_at d e ms ns i))
 
-  pub maps-more : (ms : List MessageRow) (ns : List Network) (i : ℕ) → i < length ms → i < length ns
+  next-map : (ms : List MessageRow) (ns : List Network) (i : ℕ) → i < length ms → i < length ns
       → maps_to ms ns (i + 1) ≡ maps_to ms ns i ++ map_at d e ms ns i
-  maps-more ms ns i h k = ap (maps_to ms ns) (add-one i) ∙ maps-suc ms ns i h k
+  next-map ms ns i h k = ap (maps_to ms ns) (add-one i) ∙ maps-suc ms ns i h k
+
+  -- the lines of as many messages as have a row and a network are all lines
+  pub maps-all : (ms : List MessageRow) (ns : List Network) (i : ℕ) → i ≡ min (length ms) (length ns) → maps_to ms ns i ≡ map_texts ms (network_numbers ns)
+  unfolding map_texts first_networks
+  maps-all [] ns i q = let z : i ≡ 0 = omega arith in rw z
+  maps-all (m ∷ ms) [] i q = let z : i ≡ 0 = omega arith in rw z
+  maps-all (m ∷ ms) (n ∷ ns) zero q = absurd (omega arith)
+  maps-all (m ∷ ms) (n ∷ ns) (suc i) q = ap (λ (l : List ℕ). map_text (name_text m.name) n.0 ++ l) (maps-all ms ns i (omega arith))
 
   -- one line more is no longer than all
-  pub maps-fit : (ms : List MessageRow) (ns : List Network) (n i : ℕ) → n ≤ length ms → n ≤ length ns → i < n
-      → length (maps_to ms ns (i + 1)) ≤ length (maps_to ms ns n)
-  maps-fit ms ns n i h k l =
-      grows (maps_to ms ns) (map_at d e ms ns) n (λ j g. maps-more ms ns j (omega arith) (omega arith)) (i + 1) (omega arith)
+  pub maps-fit : (ms : List MessageRow) (ns : List Network) (i : ℕ) → i < length ms → i < length ns
+      → length (maps_to ms ns (i + 1)) ≤ length (map_texts ms (network_numbers ns))
+  maps-fit ms ns i h k =
+      let n = min (length ms) (length ns) in
+      omega (
+        arith,
+        grows (maps_to ms ns) (map_at d e ms ns) n (λ j g. next-map ms ns j (omega arith) (omega arith)) (i + 1) (omega arith),
+        ap length (maps-all ms ns n refl),
+      )
 
-  pub maps-longer : (ms : List MessageRow) (ns : List Network) (i : ℕ) → i < length ms → i < length ns
-      → (m n : ℕ) → TextLength (maps_to ms ns i) (33 * i) m → TextLength (map_at d e ms ns i) 33 n → TextLength (maps_to ms ns (i + 1)) (33 * (i + 1)) (m + n)
-  maps-longer ms ns i h k m n = longer-by (maps_to ms ns i) (map_at d e ms ns i) (maps_to ms ns (i + 1)) i 33 m n (maps-more ms ns i h k)
+  -- the message and the network at place i
+  module _ (ms : List MessageRow) (ns : List Network) (i : ℕ) (h : i < length ms) (k : i < length ns)
+      (row : MessageRow) (network : Network) (p : row ≡ get_or ms i d) (q : network ≡ get_or ns i e) where
+    pub maps-more : maps_to ms ns (i + 1) ≡ maps_to ms ns i ++ map_text (name_text row.name) network.0
+    maps-more =
+        next-map ms ns i h k
+        ∙ ap₂ (λ (r : MessageRow) (n : Network). maps_to ms ns i ++ map_text (name_text r.name) n.0) (sym p) (sym q)
+
+    pub maps-longer : (m n : ℕ) → TextLength (maps_to ms ns i) (33 * i) m → TextLength (map_text (name_text row.name) network.0) 33 n
+        → TextLength (maps_to ms ns (i + 1)) (33 * (i + 1)) (m + n)
+    maps-longer m n = longer-by (maps_to ms ns i) (map_text (name_text row.name) network.0) (maps_to ms ns (i + 1)) i 33 m n maps-more
+
+    -- the next line has room where all lines have it
+    pub map-room : length (maps_to ms ns i) + length (map_text (name_text row.name) network.0) ≤ length (map_texts ms (network_numbers ns))
+    map-room = omega (arith, maps-fit ms ns i h k, ap length maps-more, length-append (maps_to ms ns i) (map_text (name_text row.name) network.0))
 
 -- ---- the names of a cycle
 
@@ -89,13 +114,23 @@ module _ (d : MessageRow) (e : Network) where
 abbrev pub names_to : List MessageRow → List Message → ℕ → List ℕ
 names_to rows cycle i = names_text rows (first_messages i cycle)
 
--- each message of the cycle has a row; e is what is read past the end
-pub message-below : (e : Message) (cycle : List Message) (n i : ℕ) → i < n → e.0 ≡ 0 → MessagesBelow n (first_messages n cycle) → (get_or cycle i e).0 < 64
+-- the names of all messages
+pub names-all : (rows : List MessageRow) (cycle : List Message) (i : ℕ) → i ≡ length cycle → names_to rows cycle i ≡ names_text rows (message_numbers cycle)
 unfolding first_messages
-message-below e cycle n i h z f =
-    let same : get_or (map message_number (take n cycle)) i 0 ≡ (get_or cycle i e).0 =
-    ap (get_or (map message_number (take n cycle)) i) (sym z) ∙ get_or-map message_number (take n cycle) i e ∙ ap message_number (get_or-take n cycle i e h) in
-    omega (arith, f i h, same)
+names-all rows cycle i q = rw q (ap (λ (l : List Message). names_text rows (message_numbers l)) (take-length cycle))
+
+-- each message of the cycle has a row; e is what is read past the end
+pub row-here : (e : Message) (rows : List MessageRow) (cycle : List Message) (i : ℕ) → HaveRows rows cycle → i < length cycle
+    → (get_or cycle i e).0 < length rows
+row-here e rows cycle i v h = omega (arith, v.here i h, get_or-map message_number cycle i e 0 h)
+
+-- messages of which each is below 64 have rows in a whole table
+pub have-rows : (rows : List MessageRow) (n : ℕ) (cycle : List Message) → length rows ≡ 64 → n ≤ 64 → MessagesBelow n (first_messages n cycle)
+    → HaveRows rows (take n cycle)
+unfolding first_messages
+have-rows rows n cycle many few below =
+    let long = length-take n cycle in
+    record { few_rows = omega arith; few = omega (arith, long); here = λ i h. omega (arith, below i (omega (arith, long))) }
 
 module _ (e : Message) (rows : List MessageRow) where
   names-suc : (cycle : List Message) (i : ℕ) → i < length cycle
@@ -111,9 +146,13 @@ module _ (e : Message) (rows : List MessageRow) where
   next-name cycle i h = ap (names_to rows cycle) (add-one i) ∙ names-suc cycle i h
 
   -- one name more is no longer than all
-  pub names-fit : (cycle : List Message) (n i : ℕ) → n ≤ length cycle → i < n → length (names_to rows cycle (i + 1)) ≤ length (names_to rows cycle n)
-  names-fit cycle n i h k =
-      grows (names_to rows cycle) (λ j. tab ++ name_at rows (get_or cycle j e).0) n (λ j g. next-name cycle j (omega arith)) (i + 1) (omega arith)
+  pub names-fit : (cycle : List Message) (i : ℕ) → i < length cycle → length (names_to rows cycle (i + 1)) ≤ length (names_text rows (message_numbers cycle))
+  names-fit cycle i h =
+      omega (
+        arith,
+        grows (names_to rows cycle) (λ j. tab ++ name_at rows (get_or cycle j e).0) (length cycle) (λ j g. next-name cycle j g) (i + 1) (omega arith),
+        ap length (names-all rows cycle (length cycle) refl),
+      )
 
   -- d is the row that is read past the end, and j the place of the message's row
   module _ (d : MessageRow) (cycle : List Message) (i : ℕ) (h : i < length cycle) (j : ℕ) (q : j ≡ (get_or cycle i e).0) (k : j < length rows) where
@@ -122,7 +161,7 @@ module _ (e : Message) (rows : List MessageRow) where
     names_more =
         next-name cycle i h
         ∙ ap (λ (r : MessageRow). names_to rows cycle i ++ (tab ++ name_text r.name))
-        (ap (λ (m : ℕ). get_or rows m no_message_row) (sym q) ∙ get_or-within rows j no_message_row d k)
+        (ap (λ (m : ℕ). get_or rows m no_message_row) (sym q) ∙ get_or_default rows j no_message_row d k)
 
     pub names-longer : (m n : ℕ) → TextLength (names_to rows cycle i) (25 * i) m → TextLength (tab ++ name_text (get_or rows j d).name) 25 n
         → TextLength (names_to rows cycle (i + 1)) (25 * (i + 1)) (m + n)

@@ -1,7 +1,7 @@
 -- The listing of a plan (01-scope.md, "Two listings, whole").
 -- "It prints a header, the class, the least count, then name and network of each message."
 -- "For class 2 a single line follows `class>2`: `cycle` and the names in order, parted by tabs."
-use Rattle.std.specs.Prelude.{ℕ, ◌<◌, List, [], ◌∷◌, ◌++◌, map, get_or, take}
+use Rattle.std.specs.Prelude.{ℕ, ◌<◌, ◌≤◌, List, [], ◌∷◌, ◌++◌, map, get_or, take, length}
 use Rattle.rules.specs.declared.Message.{Message}
 use Rattle.rules.specs.declared.Network.{Network}
 use Rattle.rules.specs.Rules.{MessageNo, NetworkNo}
@@ -52,13 +52,26 @@ class_two rows cycle = class_head 2 ++ cycle_line rows cycle
 abbrev pub network_number : Network → NetworkNo
 network_number n = n.0
 
--- The first n of these messages, or networks.
+-- The numbers of these messages, or networks.
+abbrev pub message_numbers : List Message → List MessageNo
+message_numbers l = map number l
+
+abbrev pub network_numbers : List Network → List NetworkNo
+network_numbers l = map network_number l
+
+-- The first n of them.
 unfoldable pub first_messages : ℕ → List Message → List MessageNo
-first_messages n l = map number (take n l)
+first_messages n l = message_numbers (take n l)
 
 unfoldable pub first_networks : ℕ → List Network → List NetworkNo
-first_networks n l = map network_number (take n l)
+first_networks n l = network_numbers (take n l)
 
 -- Each of the first n of these messages has a row.
 abbrev pub MessagesBelow : ℕ → List MessageNo → Type 0
 MessagesBelow n l = (i : ℕ) → i < n → get_or l i 0 < 64
+
+-- At most 64 messages, each of which has one of at most 64 rows.
+pub record HaveRows (rows : List MessageRow) (messages : List Message) : Type 0 where
+  pub few_rows : length rows ≤ 64
+  pub few : length messages ≤ 64
+  pub here : (i : ℕ) → i < length messages → get_or (message_numbers messages) i 0 < length rows

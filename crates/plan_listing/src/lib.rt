@@ -22,9 +22,9 @@ pub(crate) fn put_number_line(out: &mut [u8], word: &[u8], n: u32) -> usize
     ensures { Wrote (number_line word.now n) out.old out.new result }
 {
     let a = text::put(out, word);
-    let b = text::writers::more(out, a, &text::words::TAB);
+    let b = text::writers::more(out, a, text::words::TAB);
     let c = text::writers::more_number(out, b, n);
-    text::writers::more(out, c, &text::words::NEWLINE)
+    text::writers::more(out, c, text::words::NEWLINE)
 }
 
 // The header and the class, a line each.
@@ -32,7 +32,7 @@ pub(crate) fn put_head(out: &mut [u8], class: u32) -> usize
     requires { length (class_head class) ≤ length out.old }
     ensures { Wrote (class_head class) out.old out.new result }
 {
-    let a = text::put(out, &text::words::PLAN_HEADER);
-    let b = text::writers::more(out, a, &text::words::NEWLINE);
-    b + put_number_line(&mut out[b..], &text::words::CLASS, class)
+    let a = text::put(out, text::words::PLAN_HEADER);
+    let b = text::writers::more(out, a, text::words::NEWLINE);
+    b + put_number_line(&mut out[b..], text::words::CLASS, class)
 }

@@ -1,10 +1,10 @@
 // The listing of a class 3 plan: the least count, and a line for each message.
-ghost use Rattle.std.specs.Prelude.{◌≤◌, length, take};
+ghost use Rattle.std.specs.Prelude.{◌≤◌, length};
 ghost use Rattle.text.specs.Name.{name_text};
 ghost use Rattle.text.specs.Written.{decimal, Wrote};
 ghost use Rattle.mapping.specs.Text.{map_texts};
 ghost use Rattle.answers.specs.Answers.{Listed};
-ghost use Rattle.plan_listing.specs.PlanText.{map_text, class_three, first_networks};
+ghost use Rattle.plan_listing.specs.PlanText.{map_text, class_three, network_numbers};
 ghost use Rattle.plan_listing.specs.Lengths.{TextLength};
 
 use answers::Answer;
@@ -29,13 +29,11 @@ const MAP_FIXED: usize = text::words::MAP.len()
 fn digits(n: u8) -> usize
     ensures { TextLength (decimal n) 3 result }
 {
-    if n < 10 {
-        return 1;
+    match n {
+        0..=9 => 1,
+        10..=99 => 2,
+        _ => 3,
     }
-    if n < 100 {
-        return 2;
-    }
-    3
 }
 
 // How many bytes the line of a message and its network has: at most 33, with a name of 24 bytes and three digits.
@@ -47,22 +45,13 @@ fn map_length(name: Name, network: Network) -> usize
 }
 
 // How many bytes the lines of all messages have.
-fn maps_length(
-    messages: [MessageRow; tables::MESSAGES],
-    n: usize,
-    networks: [Network; tables::MESSAGES],
-) -> usize
-    requires { n ≤ 64 }
-    ensures { TextLength (map_texts (take n messages) (first_networks n networks)) 2112 result }
+fn maps_length(messages: &[MessageRow], networks: &[Network]) -> usize
+    requires { length messages.now ≤ 64 }
+    ensures { TextLength (map_texts messages.now (network_numbers networks.now)) 2112 result }
 {
     let mut total = 0;
-    let mut j = 0;
-    while j < n {
-        let row = messages[j];
-        let name = row.name;
-        let network = networks[j];
-        total += map_length(name, network);
-        j += 1;
+    for (row, network) in messages.iter().zip(networks) {
+        total += map_length(row.name, *network);
     }
     total
 }
@@ -73,53 +62,42 @@ fn put_map(out: &mut [u8], name: Name, network: Network) -> usize
     ensures { Wrote (map_text (name_text name) network.0) out.old out.new result }
 {
     let n = network.0;
-    let a = text::put(out, &text::words::MAP);
-    let b = text::writers::more(out, a, &text::words::TAB);
+    let a = text::put(out, text::words::MAP);
+    let b = text::writers::more(out, a, text::words::TAB);
     let c = text::writers::more_name(out, b, name);
-    let d = text::writers::more(out, c, &text::words::TAB);
+    let d = text::writers::more(out, c, text::words::TAB);
     let e = text::writers::more_number(out, d, n as u32);
-    text::writers::more(out, e, &text::words::NEWLINE)
+    text::writers::more(out, e, text::words::NEWLINE)
 }
 
 // A line for each message.
-fn put_maps(
-    out: &mut [u8],
-    messages: [MessageRow; tables::MESSAGES],
-    n: usize,
-    networks: [Network; tables::MESSAGES],
-) -> usize
-    requires { (n ≤ 64) × (length (map_texts (take n messages) (first_networks n networks)) ≤ length out.old) }
-    ensures { Wrote (map_texts (take n messages) (first_networks n networks)) out.old out.new result }
+fn put_maps(out: &mut [u8], messages: &[MessageRow], networks: &[Network]) -> usize
+    requires { length (map_texts messages.now (network_numbers networks.now)) ≤ length out.old }
+    ensures { Wrote (map_texts messages.now (network_numbers networks.now)) out.old out.new result }
 {
     let mut at = 0;
-    let mut i = 0;
-    while i < n {
-        let row = messages[i];
-        let name = row.name;
-        let network = networks[i];
-        at += put_map(&mut out[at..], name, network);
-        i += 1;
+    for (row, network) in messages.iter().zip(networks) {
+        at += put_map(&mut out[at..], row.name, *network);
     }
     at
 }
 
 // Class 3: the listing of a plan, if there is room for it.
 pub fn map_listing(
-    messages: [MessageRow; tables::MESSAGES],
-    n: usize,
-    networks: [Network; tables::MESSAGES],
+    messages: &[MessageRow],
+    networks: &[Network],
     count: usize,
     out: &mut [u8],
 ) -> Answer
-    requires { (n ≤ 64) × (count ≤ 64) }
-    ensures { Listed (class_three (take n messages) (first_networks n networks) count) out.old out.new result }
+    requires { (length messages.now ≤ 64) × (count ≤ 64) }
+    ensures { Listed (class_three messages.now (network_numbers networks.now) count) out.old out.new result }
 {
-    let needed = BEFORE_MAPS + digits(count as u8) + maps_length(messages, n, networks);
+    let needed = BEFORE_MAPS + digits(count as u8) + maps_length(messages, networks);
     if out.len() < needed {
         return answers::no_room(needed);
     }
     let a = crate::put_head(out, 3);
-    let b = a + crate::put_number_line(&mut out[a..], &text::words::NETWORKS, count as u32);
-    let end = b + put_maps(&mut out[b..], messages, n, networks);
+    let b = a + crate::put_number_line(&mut out[a..], text::words::NETWORKS, count as u32);
+    let end = b + put_maps(&mut out[b..], messages, networks);
     answers::listed(end)
 }

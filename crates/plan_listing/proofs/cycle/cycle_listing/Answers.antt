@@ -7,7 +7,7 @@ use native.Mathlib.Omega.{arith}
 use Rattle.text.proofs.Written.{part_room}
 use Rattle.tables.specs.declared.MessageRow.{MessageRow}
 use Rattle.answers.proofs.Listings.{listing-refused, listing-written}
-use Rattle.plan_listing.specs.PlanText.{class_head, cycle_line, class_two, names_text, first_messages}
+use Rattle.plan_listing.specs.PlanText.{class_head, cycle_line, class_two, names_text, message_numbers}
 use Rattle.plan_listing.specs.Lengths.{TextLength}
 use Rattle.plan_listing.proofs.Growing.{then-part}
 use Rattle.plan_listing.proofs.Lines.{class-two-length}
@@ -24,26 +24,26 @@ counted rows cycle n e =
 
 pub returns-then-out-needed : goal.returns-then-out-needed
 returns-then-out-needed c =
-    let shown = first_messages c.args.n c.args.cycle in
-    let same = counted c.args.messages shown _ c.names_length-needed.ensures in
-    listing-refused (class_two c.args.messages shown) c.args.out.now _ _ same.0 (omega arith) c.no_room.ensures
+    let shown = message_numbers c.args.cycle.now in
+    let same = counted c.args.messages.now shown _ c.names_length-needed.ensures in
+    listing-refused (class_two c.args.messages.now shown) c.args.out.now _ _ same.0 (omega arith) c.no_room.ensures
 
 pub put_head-a-requires : goal.put_head-a-requires
-put_head-a-requires c = omega (arith, counted c.args.messages (first_messages c.args.n c.args.cycle) _ c.names_length-needed.ensures)
+put_head-a-requires c = omega (arith, counted c.args.messages.now (message_numbers c.args.cycle.now) _ c.names_length-needed.ensures)
 
-pub put_cycle-requires : goal.put_cycle-requires
-put_cycle-requires c =
-    let shown = first_messages c.args.n c.args.cycle in
-    let same = counted c.args.messages shown _ c.names_length-needed.ensures in
-    (c.requires.0, c.requires.1, part_room (cycle_line c.args.messages shown) c.put_head-a.new.out c.put_head-a.result (omega arith))
+pub put_line-requires : goal.put_line-requires
+put_line-requires c =
+    let shown = message_numbers c.args.cycle.now in
+    let same = counted c.args.messages.now shown _ c.names_length-needed.ensures in
+    part_room (cycle_line c.args.messages.now shown) c.put_head-a.new.out c.put_head-a.result (omega arith)
 
 pub returns : goal.returns
 unfolding class_two
 returns c =
-    let shown = first_messages c.args.n c.args.cycle in
+    let shown = message_numbers c.args.cycle.now in
     let out = c.args.out.now in
-    let same = counted c.args.messages shown _ c.names_length-needed.ensures in
-    let fits : length (class_two c.args.messages shown) ≤ length out = omega arith in
-    listing-written (class_two c.args.messages shown) out _ _ _ fits
-    (then-part (class_head 2) (cycle_line c.args.messages shown) out _ _ fits c.put_head-a.ensures _ _ c.put_cycle.ensures)
+    let same = counted c.args.messages.now shown _ c.names_length-needed.ensures in
+    let fits : length (class_two c.args.messages.now shown) ≤ length out = omega arith in
+    listing-written (class_two c.args.messages.now shown) out _ _ _ fits
+    (then-part (class_head 2) (cycle_line c.args.messages.now shown) out _ _ fits c.put_head-a.ensures _ _ c.put_line.ensures)
     c.listed.ensures

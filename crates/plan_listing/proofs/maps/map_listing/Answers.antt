@@ -2,7 +2,7 @@
 use mathlib.Core.Path.{◌≡◌}
 use mathlib.Core.List.{List, ◌++◌}
 use Prim.Native.Nat.{ℕ, ◌+◌, ◌≤◌}
-use lib.ListN.{length, take, length-append, length-take, length-drop}
+use lib.ListN.{length, length-append, length-take, length-drop}
 use native.Mathlib.Omega.{arith}
 use Rattle.text.specs.Words.{networks_word}
 use Rattle.text.specs.Written.{decimal}
@@ -10,7 +10,7 @@ use Rattle.text.proofs.Written.{part_room}
 use Rattle.tables.specs.declared.MessageRow.{MessageRow}
 use Rattle.mapping.specs.Text.{map_texts}
 use Rattle.answers.proofs.Listings.{listing-refused, listing-written}
-use Rattle.plan_listing.specs.PlanText.{number_line, class_head, class_three, first_networks}
+use Rattle.plan_listing.specs.PlanText.{number_line, class_head, class_three, network_numbers}
 use Rattle.plan_listing.specs.Lengths.{TextLength}
 use Rattle.plan_listing.proofs.Growing.{then-part}
 use Rattle.plan_listing.proofs.Lines.{class-three-length}
@@ -29,31 +29,31 @@ counted rows networks count d n e f =
 
 pub returns-then-out-needed : goal.returns-then-out-needed
 returns-then-out-needed c =
-    let rows = take c.args.n c.args.messages in
-    let networks = first_networks c.args.n c.args.networks in
+    let rows = c.args.messages.now in
+    let networks = network_numbers c.args.networks.now in
     let same = counted rows networks c.args.count _ _ c.digits.ensures c.maps_length.ensures in
     listing-refused (class_three rows networks c.args.count) c.args.out.now _ _ same.0 (omega arith) c.no_room.ensures
 
 pub put_head-a-requires : goal.put_head-a-requires
 put_head-a-requires c =
-    let same = counted (take c.args.n c.args.messages) (first_networks c.args.n c.args.networks) c.args.count _ _ c.digits.ensures c.maps_length.ensures in
+    let same = counted c.args.messages.now (network_numbers c.args.networks.now) c.args.count _ _ c.digits.ensures c.maps_length.ensures in
     omega arith
 
 pub put_number_line-requires : goal.put_number_line-requires
 put_number_line-requires c =
-    let same = counted (take c.args.n c.args.messages) (first_networks c.args.n c.args.networks) c.args.count _ _ c.digits.ensures c.maps_length.ensures in
+    let same = counted c.args.messages.now (network_numbers c.args.networks.now) c.args.count _ _ c.digits.ensures c.maps_length.ensures in
     part_room (number_line networks_word c.args.count) c.put_head-a.new.out c.put_head-a.result (omega arith)
 
 pub put_maps-requires : goal.put_maps-requires
 put_maps-requires c =
-    let same = counted (take c.args.n c.args.messages) (first_networks c.args.n c.args.networks) c.args.count _ _ c.digits.ensures c.maps_length.ensures in
-    (c.requires.0, simp (length-take, length-drop) (omega arith))
+    let same = counted c.args.messages.now (network_numbers c.args.networks.now) c.args.count _ _ c.digits.ensures c.maps_length.ensures in
+    simp (length-take, length-drop) (omega arith)
 
 pub returns : goal.returns
 unfolding class_three
 returns c =
-    let rows = take c.args.n c.args.messages in
-    let networks = first_networks c.args.n c.args.networks in
+    let rows = c.args.messages.now in
+    let networks = network_numbers c.args.networks.now in
     let out = c.args.out.now in
     let line = number_line networks_word c.args.count in
     let lines = map_texts rows networks in

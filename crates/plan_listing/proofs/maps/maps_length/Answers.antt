@@ -1,22 +1,43 @@
 -- `plan_listing::maps::maps_length` meets its contract.
-use mathlib.Core.Path.{◌≡◌}
-use lib.ListN.{length}
+use mathlib.Core.Path.{◌≡◌, refl, ap}
+use mathlib.Core.List.{[], ◌∷◌, ◌++◌}
+use Prim.Native.Nat.{◌+◌}
+use lib.ListN.{length, length-append}
 use native.Mathlib.Omega.{arith}
-use borrow.Author.Rules.{rules}
+use Rattle.std.proofs.lemmas.Slice.Zip.{zip_turn, zip_end}
 use Rattle.mapping.specs.Text.{map_texts}
 use Rattle.plan_listing.specs.PlanText.{first_networks}
-use Rattle.plan_listing.proofs.Lines.{maps-longer}
+use Rattle.plan_listing.proofs.Lines.{maps-longer, maps-all, no_row, no_network_lem}
 use Rattle.plan_listing.proofs.maps.maps_length.Goals as goal
 
-pub loop-j-init : goal.loop-j-init
+pub loop-row-init : goal.loop-row-init
 unfolding map_texts first_networks
-loop-j-init c = (omega arith, record { exact = omega arith; few = omega arith })
+loop-row-init c = ((tt, tt), tt, record { exact = refl; few = omega arith })
 
-pub loop-j-preserved : goal.loop-j-preserved
-loop-j-preserved c =
-    let networks : length c.args.networks ≡ 64 = search rules in
-    let rows : length c.args.messages ≡ 64 = search rules in (
-      omega arith,
-      maps-longer _ _ c.args.messages c.args.networks c.loop-j.j (omega (arith, rows)) (omega (arith, networks))
-          _ _ c.loop-j.invariant.1 c.map_length-total.ensures,
+pub loop-row-preserved : goal.loop-row-preserved
+loop-row-preserved c =
+    let ms = c.args.messages.now in
+    let ns = c.args.networks.now in
+    let seen = c.loop-row.yielded in
+    let here =
+    zip_turn ms ns seen c.into_iter-row-iterator.result c.loop-row.row-iterator c.next.new.self _ (cc) (cc) c.loop-row.yielded_by
+    _ c.in-Some.is c.next.ensures.steps in
+    let one_more : length (seen ++ ((c.in-Some.row, c.in-Some.network) ∷ [])) ≡ length seen + 1 = length-append _ _ in (
+      (tt, tt),
+      tt,
+      rw one_more (maps-longer no_row no_network_lem ms ns (length seen) here.0 here.1 c.in-Some.row.now c.in-Some.network.now (here.2 no_row) (here.3 no_network_lem) _ _ c.loop-row.invariant.2 c.map_length-total.ensures),
     )
+
+pub returns : goal.returns
+returns c =
+    let ms = c.args.messages.now in
+    let ns = c.args.networks.now in
+    let seen = c.loop-row.yielded in
+    let many =
+    zip_end ms ns seen c.into_iter-row-iterator.result c.loop-row.row-iterator c.next.new.self _ (cc) (cc) c.loop-row.yielded_by
+    c.in-None.is c.next.ensures.steps in
+    let all = maps-all no_row no_network_lem ms ns (length seen) many in
+    record {
+      exact = omega (arith, c.loop-row.invariant.2.exact, ap length all);
+      few = omega (arith, c.loop-row.invariant.2.few, many, c.requires);
+    }
