@@ -3,6 +3,8 @@ use Prim.Native.Nat.{ℕ}
 use mathlib.Core.Path.{◌≡◌, refl, ap, sym, ◌∙◌, subst}
 use mathlib.Core.Logic.{◌≢◌, inl, inr, ⊎_elim}
 use mathlib.Core.List.{List, [], ◌∷◌, ◌++◌}
+use native.Mathlib.Omega.{arith}
+use lib.ListN.{length, take}
 use Rattle.rules.specs.Walks.{Chain}
 use Rattle.rules.specs.Rules.{MessageNo, Relations, Mapping, Waits, Queues, Step, Fit}
 use Rattle.rules.specs.Plan.{Closed, Word, Says}
@@ -14,9 +16,11 @@ use Rattle.protocol.specs.whole.Whole.{Reading}
 use Rattle.protocol.specs.Reading.{read_protocol_lem}
 use Rattle.mapping.specs.Mapped.{Mapped}
 use Rattle.answers.specs.Answers.{refused_at_lem, Listed}
+use Rattle.plan_listing.specs.PlanText.{first_messages}
+use Rattle.plan_listing.proofs.Lines.{have-rows}
 use Rattle.judge_listing.specs.fit.FitText.{fit_text}
 use Rattle.judge_listing.specs.JudgeText.{unfit_text, word_in, steps_from, steps_around}
-use Rattle.judge_listing.specs.Places.{GivenWalk, walk_steps}
+use Rattle.judge_listing.specs.Places.{GivenWalk}
 use Rattle.judge_listing.proofs.Places.{word-by-bit}
 use Rattle.verdicts.specs.declared.JudgementFound.{JudgementFound}
 use Rattle.std.specs.Prelude.{Option, Some, None, MatchOption}
@@ -56,7 +60,7 @@ module _ (t : Tables) (φ : Mapping) (v : JudgementFound) (is : JudgementIs (rel
     unfitting : Unfitting (relations_of_tables t) φ c
     unfitting = subst (λ (q : Option ShownCycle). MatchOption q (Fit (relations_of_tables t) φ) (Unfitting (relations_of_tables t) φ)) e is.verdict
 
-    pub judged-unfit : (old new : List ℕ) (r : Answer) → Listed (unfit_text t.messages (walk_steps v.waits c.length c.messages)) old new r → JudgementWritten t φ old new r
+    pub judged-unfit : (old new : List ℕ) (r : Answer) → Listed (unfit_text t.messages (steps_around (word_in v.waits) (cycle_of c))) old new r → JudgementWritten t φ old new r
     judged-unfit old new r l =
         let ms = cycle_of c in
         record {
@@ -74,8 +78,8 @@ module _ (t : Tables) (φ : Mapping) (v : JudgementFound) (is : JudgementIs (rel
         }
 
     -- what the listing of an unfit mapping asks for
-    pub walk-given : GivenWalk c.length c.messages
-    walk-given = record { some = unfitting.some; few = unfitting.stored.few; messages = unfitting.stored.messages }
+    pub walk-given : length t.messages ≡ 64 → length v.waits ≡ 64 → GivenWalk t.messages (take c.length c.messages) v.waits
+    walk-given many told = record { named = have-rows t.messages c.length c.messages many unfitting.stored.few unfitting.stored.messages; told = omega arith }
 
 -- ---- the mapping
 

@@ -6,48 +6,47 @@ pub mod program;
 ghost use Rattle.std.specs.Prelude.{◌<◌};
 ghost use Rattle.tables.specs.Cells.{TablesOk};
 ghost use Rattle.verdicts.specs.Verdicts.{mapping_of_lem};
+ghost use Rattle.answers.specs.unlisted.Unlisted.{listed_of, answer_of};
 ghost use Rattle.judge.specs.Call.{JudgementWritten, AfterProtocol, JudgeCall};
 
-use answers::Answer;
+use answers::unlisted::{NoRoom, Paper, Unlisted};
 use rules::Network;
 use tables::Tables;
 
 // The judgement of a mapping for a protocol's tables, written to the output if there is room for it.
-fn judge_tables(t: Tables, networks: [Network; tables::MESSAGES], out: &mut [u8]) -> Answer
-    requires { TablesOk t × (0 < t.message_count) }
-    ensures { JudgementWritten t (mapping_of_lem networks) out.old out.new result }
+fn judge_tables(
+    t: &Tables,
+    networks: [Network; tables::MESSAGES],
+    out: &mut [u8],
+) -> Result<usize, NoRoom>
+    requires { TablesOk t.now × (0 < t.now.message_count) }
+    ensures { JudgementWritten t.now (mapping_of_lem networks) out.old out.new (listed_of result) }
 {
-    let found = verdicts::judgement::judge_of(t, networks);
+    let found = verdicts::judgement::judge_of(*t, networks);
     let Some(cycle) = found.cycle else {
         return judge_listing::fit::fit_listing(out);
     };
-    let messages = t.messages;
-    let waits = found.waits;
-    judge_listing::unfit_listing(messages, cycle.messages, cycle.length, waits, out)
+    let shown = &cycle.messages[..cycle.length];
+    judge_listing::unfit_listing(&t.messages, shown, &found.waits, out)
 }
 
 // The judgement of a mapping text for a protocol's tables.
-fn judge_mapping(t: Tables, mapping: &[u8], out: &mut [u8]) -> Answer
-    requires { TablesOk t × (0 < t.message_count) }
-    ensures { AfterProtocol t mapping.now out.old out.new result }
+fn judge_mapping(t: &Tables, mapping: &[u8], out: &mut [u8]) -> Result<usize, Unlisted>
+    requires { TablesOk t.now × (0 < t.now.message_count) }
+    ensures { AfterProtocol t.now mapping.now out.old out.new (answer_of result) }
 {
-    let messages = t.messages;
-    let m = mapping::read_mapping(mapping, messages, t.message_count);
-    if m.refusal.number != 0 {
-        return answers::refused(m.refusal, 1);
+    match mapping::read_mapping(mapping, t.messages()) {
+        Ok(networks) => Ok(judge_tables(t, networks, out)?),
+        Err(why) => Err(Unlisted::Refused(why, Paper::Mapping)),
     }
-    let networks = m.networks;
-    judge_tables(t, networks, out)
 }
 
 // The judgement of a mapping text for a protocol text.
-pub fn judge(protocol: &[u8], mapping: &[u8], out: &mut [u8]) -> Answer
-    ensures { JudgeCall protocol.now mapping.now out.old out.new result }
+pub fn judge(protocol: &[u8], mapping: &[u8], out: &mut [u8]) -> Result<usize, Unlisted>
+    ensures { JudgeCall protocol.now mapping.now out.old out.new (answer_of result) }
 {
-    let r = protocol::read_protocol(protocol);
-    if r.refusal.number != 0 {
-        return answers::refused(r.refusal, 0);
+    match protocol::read_protocol(protocol) {
+        Ok(t) => judge_mapping(&t, mapping, out),
+        Err(why) => Err(Unlisted::Refused(why, Paper::Protocol)),
     }
-    let t = r.tables;
-    judge_mapping(t, mapping, out)
 }

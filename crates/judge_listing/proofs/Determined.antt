@@ -13,6 +13,6 @@ use Rattle.judge_listing.specs.Places.{walk_steps}
 pub fit-listing-determined : (old : List ℕ) → DeterminesLent (Listed fit_text old)
 fit-listing-determined = listed-determined fit_text
 
-pub unfit-listing-determined : (messages : List MessageRow) (cycle : List Message) (count : ℕ) (waits old : List ℕ)
-    → DeterminesLent (Listed (unfit_text messages (walk_steps waits count cycle)) old)
-unfit-listing-determined messages cycle count waits = listed-determined (unfit_text messages (walk_steps waits count cycle))
+pub unfit-listing-determined : (messages : List MessageRow) (cycle : List Message) (waits old : List ℕ)
+    → DeterminesLent (Listed (unfit_text messages (walk_steps waits cycle)) old)
+unfit-listing-determined messages cycle waits = listed-determined (unfit_text messages (walk_steps waits cycle))

@@ -3,18 +3,14 @@ use mathlib.Core.List.{List, [], ◌∷◌}
 use Prim.Native.Nat.{◌*◌, ◌≤◌}
 use native.Mathlib.Omega.{arith}
 use lib.ListN.{length, length-append}
-use Rattle.rules.specs.Plan.{Word, waits, queues}
 use Rattle.tables.specs.declared.MessageRow.{MessageRow}
 use Rattle.plan_listing.specs.PlanText.{name_at}
-use Rattle.judge_listing.specs.step_lines.StepLine.{line_of_step, word_text}
+use Rattle.judge_listing.specs.step_lines.StepLine.{line_of_step}
 use Rattle.judge_listing.specs.JudgeText.{ShownStep, step_text, step_texts}
 use Rattle.plan_listing.specs.Lengths.{ShortNames}
 use Rattle.judge_listing.specs.Longest.{LongestUnfit}
 use Rattle.judge_listing.proofs.StepLines.{unfit-length}
-
-word-short : (w : Word) → length (word_text w) ≤ 6
-word-short waits = omega arith
-word-short queues = omega arith
+use Rattle.judge_listing.proofs.step_lines.Lengths.{word-short}
 
 step-short : (rows : List MessageRow) (s : ShownStep) → ShortNames rows → length (step_text rows s) ≤ 62
 unfolding name_at step_text line_of_step

@@ -6,34 +6,17 @@ use mathlib.Core.List.{List, [], ◌∷◌, ◌++◌}
 use Prim.Native.Nat.{ℕ, zero, suc, ◌+◌, ◌≤◌, ◌<◌}
 use native.Mathlib.Omega.{arith}
 use native.Mathlib.Numerals.{add-one}
-use lib.ListN.{length, take, get_or, length-append, length-map, get_or-append, get_or-map}
-use lib.Seq.{get_or-take, get_or_at, length-take-le}
+use lib.ListN.{length, get_or, length-append, get_or-append}
+use lib.Seq.{get_or_at}
 use lib.Dec.{ltb}
 use borrow.Author.Tests.{ltb-true, ltb-false, lt-ltb, le-ltb}
-use Rattle.rules.specs.declared.Message.{Message}
 use Rattle.rules.specs.Rules.{MessageNo}
 use Rattle.rules.specs.Plan.{Word, waits, queues}
 use Rattle.rows.specs.Rows.{Bit}
 use Rattle.rows.proofs.Bits.{bit?}
-use Rattle.tables.specs.Cells.{number as message_number}
-use Rattle.plan_listing.specs.PlanText.{first_messages}
 use Rattle.judge_listing.specs.step_lines.StepLine.{word_of}
 use Rattle.judge_listing.specs.JudgeText.{ShownStep, step_of, steps_from, steps_around, word_in}
-use Rattle.judge_listing.specs.Places.{GivenWalk, next_place_lem, step_at_lem}
-
--- ---- the messages of the walk
-
-pub first-length : (n : ℕ) (l : List Message) → n ≤ length l → length (first_messages n l) ≡ n
-unfolding first_messages
-first-length n l h = length-map (take n l) message_number ∙ length-take-le n l h
-
-pub first-at : (n : ℕ) (l : List Message) (i : ℕ) → i < n → get_or (first_messages n l) i 0 ≡ message_number (get_or l i (record { 0 = 0 }))
-unfolding first_messages
-first-at n l i h = get_or-map message_number (take n l) i (record { 0 = 0 }) ∙ ap message_number (get_or-take n l i (record { 0 = 0 }) h)
-
--- the walk has as many messages as are counted
-pub walk-long : (count : ℕ) (cycle : List Message) → GivenWalk count cycle → length cycle ≡ 64 → length (first_messages count cycle) ≡ count
-walk-long count cycle g long = first-length count cycle (omega (arith, g.few))
+use Rattle.judge_listing.specs.Places.{next_place_lem, step_at_lem}
 
 -- ---- the place after one
 
@@ -52,12 +35,6 @@ next-below n i h = go (ltb (i + 1) n) refl
     go : (t : Bool) → ltb (i + 1) n ≡ t → cond t (i + 1) 0 < n
     go true e = ltb-true (i + 1) n e
     go false e = h
-
--- the message at the place after i
-pub next-message : (n : ℕ) (l : List Message) (i k : ℕ) → n ≤ length l → k < n → k ≡ next_place_lem n i
-    → message_number (get_or l k (record { 0 = 0 })) ≡ get_or (first_messages n l) (next_place_lem (length (first_messages n l)) i) 0
-next-message n l i k h b e =
-    sym (first-at n l k b) ∙ ap (λ (j : ℕ). get_or (first_messages n l) j 0) (e ∙ ap (λ (m : ℕ). next_place_lem m i) (sym (first-length n l h)))
 
 -- ---- the steps
 
@@ -104,7 +81,7 @@ module _ (w : MessageNo → MessageNo → Word) where
 -- ---- the word of a step
 
 -- what tells that a bit is set is the decision of it
-pub bit-told : (b : Bool) (row k : ℕ) → ((b ≡ true) ↔ Bit row k) → b ≡ decide (bit? row k)
+bit-told : (b : Bool) (row k : ℕ) → ((b ≡ true) ↔ Bit row k) → b ≡ decide (bit? row k)
 unfolding decide
 bit-told b row k f = go b (bit? row k) f
   where
@@ -113,6 +90,11 @@ bit-told b row k f = go b (bit? row k) f
     go true (no g) f = absurd (g (f.0 refl))
     go false (yes h) f = f.1 h
     go false (no g) f = refl
+
+-- the word by the bit that was read
+pub word-told : (b : Bool) (rows : List ℕ) (m k f t : ℕ) → f ≡ m → t ≡ k → ((b ≡ true) ↔ Bit (get_or rows f 0) t) → word_of b ≡ word_in rows m k
+unfolding word_in
+word-told b rows m k f t p q h = ap word_of (bit-told b (get_or rows f 0) t h) ∙ ap₂ (word_in rows) p q
 
 -- what holds of both words, each by its bit, holds of the step's word
 pub word-by-bit : (P : Word → Type 0) (rows : List ℕ) (m k : MessageNo) → (Bit (get_or rows m 0) k → P waits) → (¬ Bit (get_or rows m 0) k → P queues) → P (word_in rows m k)

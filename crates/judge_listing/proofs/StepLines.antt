@@ -1,31 +1,30 @@
 -- The lines of the steps: one after another, their lengths, and how they are written.
 use mathlib.Core.Path.{◌≡◌, refl, sym, ap, ap₂, ◌∙◌, subst}
-use mathlib.Core.Bool.{Bool, true}
-use mathlib.Core.Logic.{◌↔◌}
 use mathlib.Core.List.{List, [], ◌∷◌, ◌++◌, append_assoc, append-nil}
 use Prim.Native.Nat.{ℕ, ◌+◌, ◌-◌, ◌≤◌, ◌<◌}
 use native.Mathlib.Omega.{arith}
 use native.Mathlib.Numerals.{add-one}
 use lib.ListN.{length, take, drop, get_or, length-append, take-append-drop}
 use lib.Seq.{take-suc, take_all}
+use Rattle.rules.specs.declared.Message.{Message}
 use Rattle.rules.specs.Rules.{MessageNo}
+use Rattle.tables.specs.Cells.{number as message_number}
 use Rattle.rules.specs.Plan.{Word, queues}
-use Rattle.rows.specs.Rows.{Bit}
 use Rattle.text.specs.Name.{name_text}
 use Rattle.text.specs.Words.{unfit_word}
 use Rattle.text.specs.Written.{Wrote, Pasted}
 use Rattle.text.proofs.Written.{pasted-part, next-room, pasted-next}
 use Rattle.tables.specs.declared.MessageRow.{MessageRow}
 use Rattle.tables.specs.Tables.{no_message_row}
-use Rattle.text.proofs.Parts.{get_or-within}
-use Rattle.plan_listing.specs.PlanText.{name_at}
-use Rattle.plan_listing.proofs.Lines.{no_row}
+use Rattle.std.proofs.lemmas.List.{get_or_default, get_or-map}
+use Rattle.plan_listing.specs.PlanText.{name_at, message_numbers}
+use Rattle.plan_listing.proofs.Lines.{no_row, no_step}
 use Rattle.judge_listing.specs.fit.FitText.{verdict_head}
 use Rattle.judge_listing.specs.declared.step_lines.NamedStep.{NamedStep}
-use Rattle.judge_listing.specs.step_lines.StepLine.{line_of_step, word_text, word_of, named_line}
-use Rattle.judge_listing.specs.JudgeText.{ShownStep, steps_around, unfit_text, step_text, step_texts, word_in}
+use Rattle.judge_listing.specs.step_lines.StepLine.{line_of_step, word_text, shown_word, named_line}
+use Rattle.judge_listing.specs.JudgeText.{ShownStep, steps_around, unfit_text, step_text, step_texts}
 use Rattle.judge_listing.specs.Places.{next_place_lem, step_at_lem}
-use Rattle.judge_listing.proofs.Places.{steps-length, steps-at, bit-told}
+use Rattle.judge_listing.proofs.Places.{steps-length, steps-at}
 
 -- the name in the row of a message
 pub name-at : (rows : List MessageRow) (k m : ℕ) → k ≡ m → m < length rows
@@ -33,19 +32,22 @@ pub name-at : (rows : List MessageRow) (k m : ℕ) → k ≡ m → m < length ro
 unfolding name_at
 name-at rows k m e h =
     ap (λ (j : ℕ). name_text (get_or rows j no_row).name) e
-    ∙ ap (λ (r : MessageRow). name_text r.name) (get_or-within rows m no_row no_message_row h)
+    ∙ ap (λ (r : MessageRow). name_text r.name) (get_or_default rows m no_row no_message_row h)
 
--- a step that holds the names of its messages, and their bit, has the line of the step at its place
-pub step_line : (rows : List MessageRow) (waits l : List ℕ) (i from to f t : ℕ) (s : NamedStep) → f ≡ from → t ≡ to
+-- the message at a place of the walk, by its number
+pub number-at : (cycle : List Message) (i : ℕ) → i < length cycle → (get_or cycle i no_step).0 ≡ get_or (message_numbers cycle) i 0
+number-at cycle i h = sym (get_or-map message_number cycle i no_step 0 h)
+
+-- a step that holds the names of its messages, and their word, has the line of the step at its place
+pub step_line : (rows : List MessageRow) (w : MessageNo → MessageNo → Word) (l : List MessageNo) (i from to : ℕ) (s : NamedStep)
     → from ≡ get_or l i 0 → to ≡ get_or l (next_place_lem (length l) i) 0
-    → name_text s.from ≡ name_at rows from → name_text s.to ≡ name_at rows to → ((s.waits ≡ true) ↔ Bit (get_or waits f 0) t)
-    → named_line s ≡ step_text rows (step_at_lem (word_in waits) l i)
-unfolding named_line step_text step_at_lem word_in
-step_line rows waits l i from to f t s pf pt ef et nf nt b =
-    ap₂ (λ (p q : List ℕ). line_of_step p (word_text (word_of s.waits)) q) nf nt
-    ∙ ap (λ (t : Bool). line_of_step (name_at rows from) (word_text (word_of t)) (name_at rows to)) (bit-told s.waits (get_or waits f 0) t b)
-    ∙ ap₂ (λ (g u : ℕ). line_of_step (name_at rows from) (word_text (word_in waits g u)) (name_at rows to)) pf pt
-    ∙ ap₂ (λ (f t : ℕ). line_of_step (name_at rows f) (word_text (word_in waits f t)) (name_at rows t)) ef et
+    → name_text s.from ≡ name_at rows from → name_text s.to ≡ name_at rows to → shown_word s.word ≡ w from to
+    → named_line s ≡ step_text rows (step_at_lem w l i)
+unfolding named_line step_text step_at_lem
+step_line rows w l i from to s ef et nf nt e =
+    ap₂ (λ (p q : List ℕ). line_of_step p (word_text (shown_word s.word)) q) nf nt
+    ∙ ap (λ (v : Word). line_of_step (name_at rows from) (word_text v) (name_at rows to)) e
+    ∙ ap₂ (λ (f t : ℕ). line_of_step (name_at rows f) (word_text (w f t)) (name_at rows t)) ef et
 
 -- ---- lengths
 

@@ -1,20 +1,20 @@
 -- The steps of a closed walk by their places.
-use Rattle.std.specs.Prelude.{ℕ, ◌+◌, ◌<◌, ◌≤◌, cond, List, length, get_or, ltb}
+use Rattle.std.specs.Prelude.{ℕ, ◌+◌, ◌≤◌, cond, List, length, get_or, ltb}
 use Rattle.rules.specs.declared.Message.{Message}
 use Rattle.rules.specs.Rules.{MessageNo}
 use Rattle.rules.specs.Plan.{Word}
-use Rattle.plan_listing.specs.PlanText.{first_messages, MessagesBelow}
+use Rattle.tables.specs.declared.MessageRow.{MessageRow}
+use Rattle.plan_listing.specs.PlanText.{message_numbers, HaveRows}
 use Rattle.judge_listing.specs.JudgeText.{ShownStep, step_of, steps_around, word_in}
 
--- A closed walk as it is given: 1 to 64 messages, each with a row in the tables.
-pub record GivenWalk (count : ℕ) (cycle : List Message) : Type 0 where
-  pub some : 0 < count
-  pub few : count ≤ 64
-  pub messages : MessagesBelow count (first_messages count cycle)
+-- A closed walk as it is given: each message has a row in the tables, and each row a row of waits.
+pub record GivenWalk (rows : List MessageRow) (cycle : List Message) (waits : List ℕ) : Type 0 where
+  pub named : HaveRows rows cycle
+  pub told : length rows ≤ length waits
 
 -- The steps of the walk, their words by the rows of waits.
-abbrev pub walk_steps : List ℕ → ℕ → List Message → List ShownStep
-walk_steps waits count cycle = steps_around (word_in waits) (first_messages count cycle)
+abbrev pub walk_steps : List ℕ → List Message → List ShownStep
+walk_steps waits cycle = steps_around (word_in waits) (message_numbers cycle)
 
 -- The place after i in a closed walk of n messages: behind the last one stands the first.
 unfoldable pub next_place_lem : ℕ → ℕ → ℕ

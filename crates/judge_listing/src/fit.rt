@@ -14,6 +14,6 @@ pub fn fit_listing(out: &mut [u8]) -> Answer
     if out.len() < FIT_LISTING {
         return answers::no_room(FIT_LISTING);
     }
-    let end = crate::put_verdict(out, &text::words::FIT);
+    let end = crate::put_verdict(out, text::words::FIT);
     answers::listed(end)
 }

@@ -7,14 +7,14 @@ pub mod step_lines;
 ghost use Rattle.std.specs.Prelude.{◌≡◌, ◌+◌, ◌<◌, ◌≤◌, length};
 ghost use Rattle.text.specs.Name.{name_text};
 ghost use Rattle.text.specs.Written.{Wrote, Pasted};
-ghost use Rattle.plan_listing.specs.PlanText.{name_at, first_messages};
+ghost use Rattle.plan_listing.specs.PlanText.{name_at, message_numbers};
 ghost use Rattle.answers.specs.Answers.{Listed};
 ghost use Rattle.judge_listing.specs.fit.FitText.{verdict_head};
-ghost use Rattle.judge_listing.specs.step_lines.StepLine.{named_line};
+ghost use Rattle.judge_listing.specs.step_lines.StepLine.{named_line, shown_word};
 ghost use Rattle.judge_listing.specs.JudgeText.{unfit_text, step_text, step_texts, word_in};
 ghost use Rattle.judge_listing.specs.Places.{GivenWalk, walk_steps, next_place_lem, step_at_lem};
 
-use crate::step_lines::NamedStep;
+use crate::step_lines::{NamedStep, StepWord};
 use answers::Answer;
 use rules::Message;
 use tables::MessageRow;
@@ -33,19 +33,10 @@ pub(crate) fn put_verdict(out: &mut [u8], verdict: &[u8]) -> usize
     requires { length (verdict_head verdict.now) ≤ length out.old }
     ensures { Wrote (verdict_head verdict.now) out.old out.new result }
 {
-    let a = text::put(out, &text::words::JUDGE_HEADER);
-    let b = text::writers::more(out, a, &text::words::NEWLINE);
+    let a = text::put(out, text::words::JUDGE_HEADER);
+    let b = text::writers::more(out, a, text::words::NEWLINE);
     let c = text::writers::more(out, b, verdict);
-    text::writers::more(out, c, &text::words::NEWLINE)
-}
-
-// The name of a message.
-fn message_name(messages: [MessageRow; tables::MESSAGES], m: Message) -> Name
-    requires { m.0 < 64 }
-    ensures { name_text result ≡ name_at messages m.0 }
-{
-    let row = messages[m.index()];
-    row.name
+    text::writers::more(out, c, text::words::NEWLINE)
 }
 
 // The place after i in a closed walk.
@@ -59,84 +50,93 @@ fn next_place(i: usize, count: usize) -> usize
     i + 1
 }
 
-// The step at place i of the shown cycle.
-fn step_at(
-    messages: [MessageRow; tables::MESSAGES],
-    cycle: [Message; tables::MESSAGES],
-    count: usize,
-    waits: [u64; tables::MESSAGES],
-    i: usize,
-) -> NamedStep
-    requires { GivenWalk count cycle × (i < count) }
-    ensures { named_line result ≡ step_text messages (step_at_lem (word_in waits) (first_messages count cycle) i) }
-{
-    let from = cycle[i];
-    let to = cycle[next_place(i, count)];
-    let row = waits[from.index()];
-    NamedStep {
-        from: message_name(messages, from),
-        waits: rows::has(row, to.index()),
-        to: message_name(messages, to),
-    }
+// A closed walk: its messages, the rows that name them, and the rows of waits that tell each step's word.
+#[derive(Clone, Copy)]
+struct Walk<'a> {
+    rows: &'a [MessageRow],
+    cycle: &'a [Message],
+    waits: &'a [u64],
+    ghost given: { GivenWalk rows.now cycle.now waits.now },
 }
 
-// How many bytes the listing of an unfit mapping has.
-fn unfit_length(
-    messages: [MessageRow; tables::MESSAGES],
-    cycle: [Message; tables::MESSAGES],
-    count: usize,
-    waits: [u64; tables::MESSAGES],
-) -> usize
-    requires { GivenWalk count cycle }
-    ensures { result ≡ length (unfit_text messages (walk_steps waits count cycle)) }
-{
-    let mut n = BEFORE_STEPS;
-    let mut counted = 0;
-    while counted < count {
-        n += crate::step_lines::step_length(step_at(messages, cycle, count, waits, counted));
-        counted += 1;
+impl Walk<'_> {
+    // The name of a message.
+    fn name(&self, m: Message) -> Name
+        requires { m.0 < length self.now.rows.now }
+        ensures { name_text result ≡ name_at self.now.rows.now m.0 }
+    {
+        self.rows[m.index()].name
     }
-    n
-}
 
-// The lines of all steps, from a place of out on. Each is lent the rest of the output.
-fn more_steps(
-    out: &mut [u8],
-    start: usize,
-    messages: [MessageRow; tables::MESSAGES],
-    cycle: [Message; tables::MESSAGES],
-    count: usize,
-    waits: [u64; tables::MESSAGES],
-) -> usize
-    requires { GivenWalk count cycle × (start + length (step_texts messages (walk_steps waits count cycle)) ≤ length out.old) }
-    ensures { Pasted (step_texts messages (walk_steps waits count cycle)) start out.old out.new result }
-{
-    let mut at = start;
-    let mut written = 0;
-    while written < count {
-        let step = step_at(messages, cycle, count, waits, written);
-        at += crate::step_lines::put_step(&mut out[at..], step);
-        written += 1;
+    // The word of the step from one message to another.
+    fn word(&self, from: Message, to: Message) -> StepWord
+        requires { (from.0 < length self.now.rows.now) × (to.0 < length self.now.rows.now) }
+        ensures { shown_word result ≡ word_in self.now.waits.now from.0 to.0 }
+    {
+        if rows::has(self.waits[from.index()], to.index()) {
+            return StepWord::Waits;
+        }
+        StepWord::Queues
     }
-    at
+
+    // The step at place i.
+    fn step_at(&self, i: usize) -> NamedStep
+        requires { i < length self.now.cycle.now }
+        ensures { named_line result ≡ step_text self.now.rows.now (step_at_lem (word_in self.now.waits.now) (message_numbers self.now.cycle.now) i) }
+    {
+        let from = self.cycle[i];
+        let to = self.cycle[next_place(i, self.cycle.len())];
+        NamedStep {
+            from: self.name(from),
+            word: self.word(from, to),
+            to: self.name(to),
+        }
+    }
+
+    // How many bytes the listing has. A step leads to the next place, so both loops go over places.
+    fn listing_length(&self) -> usize
+        ensures { result ≡ length (unfit_text self.now.rows.now (walk_steps self.now.waits.now self.now.cycle.now)) }
+    {
+        let mut n = BEFORE_STEPS;
+        for counted in 0..self.cycle.len() {
+            n += self.step_at(counted).length();
+        }
+        n
+    }
+
+    // The lines of all steps, from a place of out on. Each is lent the rest of the output.
+    fn more_steps(&self, out: &mut [u8], start: usize) -> usize
+        requires { start + length (step_texts self.now.rows.now (walk_steps self.now.waits.now self.now.cycle.now)) ≤ length out.old }
+        ensures { Pasted (step_texts self.now.rows.now (walk_steps self.now.waits.now self.now.cycle.now)) start out.old out.new result }
+    {
+        let mut at = start;
+        for written in 0..self.cycle.len() {
+            at += self.step_at(written).put(&mut out[at..]);
+        }
+        at
+    }
 }
 
 // The listing of an unfit mapping, if there is room for it: the steps of the shown cycle. The rows of waits tell each step's word.
 pub fn unfit_listing(
-    messages: [MessageRow; tables::MESSAGES],
-    cycle: [Message; tables::MESSAGES],
-    count: usize,
-    waits: [u64; tables::MESSAGES],
+    messages: &[MessageRow],
+    cycle: &[Message],
+    waits: &[u64],
     out: &mut [u8],
 ) -> Answer
-    requires { GivenWalk count cycle }
-    ensures { Listed (unfit_text messages (walk_steps waits count cycle)) out.old out.new result }
+    requires { GivenWalk messages.now cycle.now waits.now }
+    ensures { Listed (unfit_text messages.now (walk_steps waits.now cycle.now)) out.old out.new result }
 {
-    let needed = unfit_length(messages, cycle, count, waits);
+    let walk = Walk {
+        rows: messages,
+        cycle,
+        waits,
+    };
+    let needed = walk.listing_length();
     if out.len() < needed {
         return answers::no_room(needed);
     }
-    let at = put_verdict(out, &text::words::UNFIT);
-    let end = more_steps(out, at, messages, cycle, count, waits);
+    let at = put_verdict(out, text::words::UNFIT);
+    let end = walk.more_steps(out, at);
     answers::listed(end)
 }
