@@ -9,13 +9,14 @@ ghost use Rattle.text.specs.Name.{name_text};
 ghost use Rattle.text.specs.Written.{Wrote, Pasted};
 ghost use Rattle.plan_listing.specs.PlanText.{name_at, message_numbers};
 ghost use Rattle.answers.specs.Answers.{Listed};
+ghost use Rattle.answers.specs.unlisted.Unlisted.{listed_of};
 ghost use Rattle.judge_listing.specs.fit.FitText.{verdict_head};
 ghost use Rattle.judge_listing.specs.step_lines.StepLine.{named_line, shown_word};
 ghost use Rattle.judge_listing.specs.JudgeText.{unfit_text, step_text, step_texts, word_in};
 ghost use Rattle.judge_listing.specs.Places.{GivenWalk, walk_steps, next_place_lem, step_at_lem};
 
 use crate::step_lines::{NamedStep, StepWord};
-use answers::Answer;
+use answers::unlisted::NoRoom;
 use rules::Message;
 use tables::MessageRow;
 use text::Name;
@@ -123,9 +124,9 @@ pub fn unfit_listing(
     cycle: &[Message],
     waits: &[u64],
     out: &mut [u8],
-) -> Answer
+) -> Result<usize, NoRoom>
     requires { GivenWalk messages.now cycle.now waits.now }
-    ensures { Listed (unfit_text messages.now (walk_steps waits.now cycle.now)) out.old out.new result }
+    ensures { Listed (unfit_text messages.now (walk_steps waits.now cycle.now)) out.old out.new (listed_of result) }
 {
     let walk = Walk {
         rows: messages,
@@ -134,9 +135,9 @@ pub fn unfit_listing(
     };
     let needed = walk.listing_length();
     if out.len() < needed {
-        return answers::no_room(needed);
+        return Err(NoRoom { needed });
     }
     let at = put_verdict(out, text::words::UNFIT);
     let end = walk.more_steps(out, at);
-    answers::listed(end)
+    Ok(end)
 }

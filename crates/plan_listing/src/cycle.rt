@@ -4,10 +4,11 @@ ghost use Rattle.text.specs.Name.{name_text};
 ghost use Rattle.text.specs.Words.{tab};
 ghost use Rattle.text.specs.Written.{Wrote};
 ghost use Rattle.answers.specs.Answers.{Listed};
+ghost use Rattle.answers.specs.unlisted.Unlisted.{listed_of};
 ghost use Rattle.plan_listing.specs.PlanText.{names_text, cycle_line, class_two, message_numbers, HaveRows};
 ghost use Rattle.plan_listing.specs.Lengths.{TextLength};
 
-use answers::Answer;
+use answers::unlisted::NoRoom;
 use rules::Message;
 use tables::MessageRow;
 use text::Name;
@@ -77,9 +78,9 @@ impl NamedCycle<'_> {
 }
 
 // Class 2: the listing of a shown cycle, if there is room for it.
-pub fn cycle_listing(messages: &[MessageRow], cycle: &[Message], out: &mut [u8]) -> Answer
+pub fn cycle_listing(messages: &[MessageRow], cycle: &[Message], out: &mut [u8]) -> Result<usize, NoRoom>
     requires { HaveRows messages.now cycle.now }
-    ensures { Listed (class_two messages.now (message_numbers cycle.now)) out.old out.new result }
+    ensures { Listed (class_two messages.now (message_numbers cycle.now)) out.old out.new (listed_of result) }
 {
     let shown = NamedCycle {
         rows: messages,
@@ -87,9 +88,9 @@ pub fn cycle_listing(messages: &[MessageRow], cycle: &[Message], out: &mut [u8])
     };
     let needed = CYCLE_FIXED + shown.names_length();
     if out.len() < needed {
-        return answers::no_room(needed);
+        return Err(NoRoom { needed });
     }
     let a = crate::put_head(out, 2);
     let end = a + shown.put_line(&mut out[a..]);
-    answers::listed(end)
+    Ok(end)
 }

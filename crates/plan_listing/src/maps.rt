@@ -4,10 +4,11 @@ ghost use Rattle.text.specs.Name.{name_text};
 ghost use Rattle.text.specs.Written.{decimal, Wrote};
 ghost use Rattle.mapping.specs.Text.{map_texts};
 ghost use Rattle.answers.specs.Answers.{Listed};
+ghost use Rattle.answers.specs.unlisted.Unlisted.{listed_of};
 ghost use Rattle.plan_listing.specs.PlanText.{map_text, class_three, network_numbers};
 ghost use Rattle.plan_listing.specs.Lengths.{TextLength};
 
-use answers::Answer;
+use answers::unlisted::NoRoom;
 use rules::Network;
 use tables::MessageRow;
 use text::Name;
@@ -88,16 +89,16 @@ pub fn map_listing(
     networks: &[Network],
     count: usize,
     out: &mut [u8],
-) -> Answer
+) -> Result<usize, NoRoom>
     requires { (length messages.now ≤ 64) × (count ≤ 64) }
-    ensures { Listed (class_three messages.now (network_numbers networks.now) count) out.old out.new result }
+    ensures { Listed (class_three messages.now (network_numbers networks.now) count) out.old out.new (listed_of result) }
 {
     let needed = BEFORE_MAPS + digits(count as u8) + maps_length(messages, networks);
     if out.len() < needed {
-        return answers::no_room(needed);
+        return Err(NoRoom { needed });
     }
     let a = crate::put_head(out, 3);
     let b = a + crate::put_number_line(&mut out[a..], text::words::NETWORKS, count as u32);
     let end = b + put_maps(&mut out[b..], messages, networks);
-    answers::listed(end)
+    Ok(end)
 }

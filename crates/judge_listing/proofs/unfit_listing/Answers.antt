@@ -1,4 +1,5 @@
 -- `judge_listing::unfit_listing` meets its contract.
+use mathlib.Core.Path.{refl}
 use mathlib.Core.List.{◌++◌}
 use Prim.Native.Nat.{◌≤◌}
 use lib.ListN.{length}
@@ -26,4 +27,4 @@ returns c =
     let head = verdict_head unfit_word in
     let lines = step_texts c.args.messages.now (walk_steps c.args.waits.now c.args.cycle.now) in
     let room : length (head ++ lines) ≤ length c.args.out.now = omega (arith, c.listing_length-needed.ensures) in
-    listing-written (head ++ lines) c.args.out.now _ c.more_steps-end.result _ room (then-more head lines c.args.out.now _ _ room c.put_verdict-at.ensures _ _ c.more_steps-end.ensures) c.listed.ensures
+    listing-written (head ++ lines) c.args.out.now _ c.more_steps-end.result _ room (then-more head lines c.args.out.now _ _ room c.put_verdict-at.ensures _ _ c.more_steps-end.ensures) refl

@@ -22,4 +22,4 @@ pub returns : goal.returns
 unfolding fit_text
 returns c =
     let room : length (verdict_head fit_word) ≤ length c.args.out.now = omega (arith, verdict-length fit_word, c.if-out-lt-FIT_LISTING.false) in
-    listing-written (verdict_head fit_word) c.args.out.now _ _ _ room c.put_verdict-end.ensures c.listed.ensures
+    listing-written (verdict_head fit_word) c.args.out.now _ _ _ room c.put_verdict-end.ensures refl

@@ -1,5 +1,5 @@
 -- `plan_listing::cycle::cycle_listing` meets its contract.
-use mathlib.Core.Path.{◌≡◌}
+use mathlib.Core.Path.{◌≡◌, refl}
 use mathlib.Core.List.{List}
 use Prim.Native.Nat.{ℕ, ◌+◌, ◌≤◌}
 use lib.ListN.{length, length-append}
@@ -26,7 +26,7 @@ pub returns-then-out-needed : goal.returns-then-out-needed
 returns-then-out-needed c =
     let shown = message_numbers c.args.cycle.now in
     let same = counted c.args.messages.now shown _ c.names_length-needed.ensures in
-    listing-refused (class_two c.args.messages.now shown) c.args.out.now _ _ same.0 (omega arith) c.no_room.ensures
+    listing-refused (class_two c.args.messages.now shown) c.args.out.now _ _ same.0 (omega arith) refl
 
 pub put_head-a-requires : goal.put_head-a-requires
 put_head-a-requires c = omega (arith, counted c.args.messages.now (message_numbers c.args.cycle.now) _ c.names_length-needed.ensures)
@@ -46,4 +46,4 @@ returns c =
     let fits : length (class_two c.args.messages.now shown) ≤ length out = omega arith in
     listing-written (class_two c.args.messages.now shown) out _ _ _ fits
     (then-part (class_head 2) (cycle_line c.args.messages.now shown) out _ _ fits c.put_head-a.ensures _ _ c.put_line.ensures)
-    c.listed.ensures
+    refl

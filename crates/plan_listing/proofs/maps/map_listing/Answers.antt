@@ -1,5 +1,5 @@
 -- `plan_listing::maps::map_listing` meets its contract.
-use mathlib.Core.Path.{◌≡◌}
+use mathlib.Core.Path.{◌≡◌, refl}
 use mathlib.Core.List.{List, ◌++◌}
 use Prim.Native.Nat.{ℕ, ◌+◌, ◌≤◌}
 use lib.ListN.{length, length-append, length-take, length-drop}
@@ -32,7 +32,7 @@ returns-then-out-needed c =
     let rows = c.args.messages.now in
     let networks = network_numbers c.args.networks.now in
     let same = counted rows networks c.args.count _ _ c.digits.ensures c.maps_length.ensures in
-    listing-refused (class_three rows networks c.args.count) c.args.out.now _ _ same.0 (omega arith) c.no_room.ensures
+    listing-refused (class_three rows networks c.args.count) c.args.out.now _ _ same.0 (omega arith) refl
 
 pub put_head-a-requires : goal.put_head-a-requires
 put_head-a-requires c =
@@ -60,4 +60,4 @@ returns c =
     let same = counted rows networks c.args.count _ _ c.digits.ensures c.maps_length.ensures in
     let fits : length ((class_head 3 ++ line) ++ lines) ≤ length out = omega arith in
     let front = then-part (class_head 3) line out _ _ (simp length-append (omega arith)) c.put_head-a.ensures _ _ c.put_number_line.ensures in
-    listing-written ((class_head 3 ++ line) ++ lines) out _ _ _ fits (then-part (class_head 3 ++ line) lines out _ _ fits front _ _ c.put_maps.ensures) c.listed.ensures
+    listing-written ((class_head 3 ++ line) ++ lines) out _ _ _ fits (then-part (class_head 3 ++ line) lines out _ _ fits front _ _ c.put_maps.ensures) refl
