@@ -45,7 +45,7 @@ pub struct Answer {
 }
 
 // A refusal of a paper.
-pub fn refused(why: Refusal, paper: u8) -> Answer
+fn refused(why: Refusal, paper: u8) -> Answer
     ensures { result ≡ refused_at_lem why paper }
 {
     Answer {
@@ -57,7 +57,7 @@ pub fn refused(why: Refusal, paper: u8) -> Answer
 }
 
 // Refusal 16: the listing is longer than the lent output.
-pub fn no_room(needed: usize) -> Answer
+fn no_room(needed: usize) -> Answer
     ensures { result ≡ no_room_lem needed }
 {
     Answer {
@@ -73,7 +73,7 @@ pub fn no_room(needed: usize) -> Answer
 }
 
 // The listing stands at the front of the output.
-pub fn listed(length: usize) -> Answer
+fn listed(length: usize) -> Answer
     ensures { result ≡ finished length }
 {
     Answer {

@@ -2,18 +2,20 @@
 ghost use Rattle.std.specs.Prelude.{◌≤◌, length, replicate};
 ghost use Rattle.judge.specs.program.Printed.{JudgePrinted};
 
-use answers::PrintedBytes;
+use answers::{Answer, PrintedBytes};
 
 // What the judging program prints, at the front of out. There is room for the longest answer within the limits.
 fn put_judgement(protocol: &[u8], mapping: &[u8], out: &mut [u8]) -> usize
     requires { 4096 ≤ length out.old }
     ensures { JudgePrinted protocol.now mapping.now out.old out.new result }
 {
-    let a = crate::judge(protocol, mapping, out);
-    if a.refusal.number == 0 {
-        return a.length;
+    match crate::judge(protocol, mapping, out) {
+        Ok(length) => length,
+        Err(unlisted) => {
+            let a = Answer::of(Err(unlisted));
+            answers::refused_text::put_refused(out, a.refusal, a.paper)
+        }
     }
-    answers::refused_text::put_refused(out, a.refusal, a.paper)
 }
 
 // What the judging program prints. It asks nothing: the room is its own.

@@ -3,8 +3,8 @@ use Prim.Native.Nat.{ℕ}
 use mathlib.Core.Path.{◌≡◌, refl, ap, sym, ◌∙◌, subst}
 use mathlib.Core.Logic.{◌≢◌, inl, inr}
 use mathlib.Core.List.{List}
-use lib.ListN.{take}
 use Rattle.tables.specs.declared.Tables.{Tables}
+use Rattle.tables.specs.Tables.{messages_of_lem}
 use Rattle.tables.specs.Cells.{relations_of_tables}
 use Rattle.protocol.specs.whole.Whole.{Reading}
 use Rattle.protocol.specs.Reading.{read_protocol_lem}
@@ -13,42 +13,32 @@ use Rattle.answers.specs.Answers.{refused_at_lem, Listed}
 use Rattle.plan_listing.specs.PlanText.{class_three, class_two, first_networks}
 use Rattle.rules.specs.declared.Network.{Network}
 use Rattle.verdicts.specs.declared.ShownCycle.{ShownCycle}
-use Rattle.verdicts.specs.declared.PlanFound.{PlanFound}
-use Rattle.verdicts.specs.declared.PlanFound.TheVariants.{Ranked, Cyclic}
-use Rattle.verdicts.specs.Verdicts.{cycle_of, ThreeFound, TwoFound, PlanIs}
+use Rattle.verdicts.specs.Verdicts.{cycle_of, ThreeFound, TwoFound}
 use Rattle.plan.specs.Call.{PlanWritten, PlanCall}
 
-module _ (t : Tables) (v : PlanFound) (is : PlanIs (relations_of_tables t) v) where
-  module _ (count : ℕ) (networks : List Network) (e : v ≡ Ranked count networks) where
-    pub three : ThreeFound (relations_of_tables t) count networks
-    three = subst (PlanIs (relations_of_tables t)) e is
+module _ (t : Tables) where
+  pub planned-three : (count : ℕ) (networks : List Network) → ThreeFound (relations_of_tables t) count networks → (old new : List ℕ) (r : Answer)
+      → Listed (class_three (messages_of_lem t) (first_networks t.message_count networks) count) old new r → PlanWritten t old new r
+  planned-three count networks three old new r l = record {
+    listing = class_three (messages_of_lem t) (first_networks t.message_count networks) count;
+    allowed =
+        inl (record {
+          networks = first_networks t.message_count networks;
+          count = count;
+          long = three.long;
+          printed = three.printed;
+          least = three.least;
+          is = refl;
+        });
+    listed = l;
+  }
 
-    pub planned-three : (old new : List ℕ) (r : Answer) → Listed (class_three (take t.message_count t.messages) (first_networks t.message_count networks) count) old new r
-        → PlanWritten t old new r
-    planned-three old new r l = record {
-      listing = class_three (take t.message_count t.messages) (first_networks t.message_count networks) count;
-      allowed =
-          inl (record {
-            networks = first_networks t.message_count networks;
-            count = count;
-            long = three.long;
-            printed = three.printed;
-            least = three.least;
-            is = refl;
-          });
-      listed = l;
-    }
-
-  module _ (c : ShownCycle) (e : v ≡ Cyclic c) where
-    pub two : TwoFound (relations_of_tables t) c
-    two = subst (PlanIs (relations_of_tables t)) e is
-
-    pub planned-two : (old new : List ℕ) (r : Answer) → Listed (class_two t.messages (cycle_of c)) old new r → PlanWritten t old new r
-    planned-two old new r l = record {
-      listing = class_two t.messages (cycle_of c);
-      allowed = inr (record { cycle = cycle_of c; shown = two.cycle; is = refl });
-      listed = l;
-    }
+  pub planned-two : (c : ShownCycle) → TwoFound (relations_of_tables t) c → (old new : List ℕ) (r : Answer) → Listed (class_two t.messages (cycle_of c)) old new r → PlanWritten t old new r
+  planned-two c two old new r l = record {
+    listing = class_two t.messages (cycle_of c);
+    allowed = inr (record { cycle = cycle_of c; shown = two.cycle; is = refl });
+    listed = l;
+  }
 
 -- ---- the call
 

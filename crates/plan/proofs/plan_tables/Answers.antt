@@ -1,29 +1,23 @@
 -- `plan::plan_tables` meets its contract.
 use native.Mathlib.Omega.{arith}
-use Rattle.plan.proofs.PlanLaws.{three, planned-three, two, planned-two}
+use borrow.Author.Rules.{rules}
+use Rattle.plan_listing.specs.PlanText.{first_messages, first_networks}
+use Rattle.plan_listing.proofs.Lines.{have-rows}
+use Rattle.plan.proofs.PlanLaws.{planned-three, planned-two}
 use Rattle.plan.proofs.plan_tables.Goals as goal
 
 pub map_listing-requires : goal.map_listing-requires
-map_listing-requires c =
-    let f = c.plan_of-found in
-    let r = c.in-Ranked in
-    (omega (arith, c.requires.0.messages), omega (arith, (three c.args.t f.result f.ensures r.count r.networks r.is).few))
+map_listing-requires c = (omega (arith, c.messages.ensures.many, c.requires.0.messages), omega (arith, c.in-Ranked.ensures.few))
 
 pub returns-in-Ranked : goal.returns-in-Ranked
-returns-in-Ranked c =
-    let f = c.plan_of-found in
-    let r = c.in-Ranked in
-    planned-three c.args.t f.result f.ensures r.count r.networks r.is _ _ _ c.map_listing.ensures
+unfolding first_networks
+returns-in-Ranked c = planned-three c.args.t.now c.in-Ranked.count c.in-Ranked.networks c.in-Ranked.ensures _ _ _ (rw c.messages.ensures.rows at c.map_listing.ensures)
 
 pub cycle_listing-requires : goal.cycle_listing-requires
 cycle_listing-requires c =
-    let f = c.plan_of-found in
-    let y = c.in-Cyclic in
-    let s = (two c.args.t f.result f.ensures y.cycle y.is).stored in
-    (omega (arith, s.few), s.messages)
+    let s = c.in-Cyclic.ensures.stored in
+    have-rows c.args.t.now.messages c.in-Cyclic.cycle.length c.in-Cyclic.cycle.messages (search rules) s.few s.messages
 
 pub returns-in-Cyclic : goal.returns-in-Cyclic
-returns-in-Cyclic c =
-    let f = c.plan_of-found in
-    let y = c.in-Cyclic in
-    planned-two c.args.t f.result f.ensures y.cycle y.is _ _ _ c.cycle_listing.ensures
+unfolding first_messages
+returns-in-Cyclic c = planned-two c.args.t.now c.in-Cyclic.cycle c.in-Cyclic.ensures _ _ _ c.cycle_listing.ensures
