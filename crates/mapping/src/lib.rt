@@ -63,9 +63,7 @@ fn map_lines(
         let e = text::find(text, 10, at, n);
         let line = Record::of(&text[at..e]);
         let nth = i + 2;
-        if let Err(field) = crate::lines::is_map(&line) {
-            return Err(Refused::at(Reason::Shape, nth, field));
-        }
+        crate::lines::is_map(&line).map_err(|field| Refused::at(Reason::Shape, nth, field))?;
         if i == header.most {
             return Err(Refused::whole(Reason::Full, nth));
         }

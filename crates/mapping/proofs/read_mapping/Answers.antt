@@ -4,6 +4,8 @@ use mathlib.Core.Path.{◌≡◌, refl, sym, ap, ◌∙◌, subst}
 use mathlib.Core.List.{List, []}
 use lib.ListN.{length, take, drop}
 use native.Mathlib.Omega.{arith}
+use Rattle.std.specs.Prelude.{Err}
+use Rattle.std.proofs.lemmas.Result.{err_from_is_err_and}
 use Rattle.text.specs.Parts.{lines}
 use Rattle.papers.specs.declared.Refusal.{Refusal}
 use Rattle.papers.specs.refused.Refused.{told_refusal}
@@ -13,7 +15,6 @@ use Rattle.papers.proofs.Refusals.{told-some}
 use Rattle.papers.proofs.OpeningLaws.{opened}
 use Rattle.mapping.specs.Headers.{header_of}
 use Rattle.mapping.specs.Reading.{mapped_of, maps_refused, read_maps}
-use Rattle.mapping.proofs.Told.{handed-on}
 use Rattle.mapping.proofs.ReadLaws.{reading-refused, reading-lines, rest_lem, lined_rest}
 use Rattle.mapping.proofs.read_mapping.Goals.{In_ok-opening}
 use Rattle.mapping.proofs.read_mapping.Goals as goal
@@ -29,7 +30,8 @@ returns-in_err-opening c =
     let text = c.args.text.now in
     let why = c.in_err-opening.field-0.0 in
     let told : told_refusal why ≡ opening_of (header_of text).line text = c.in_err-opening.ensures ∙ ap (λ (l : List ℕ). opening_of l text) c.header_of-header.ensures.line in
-    ap mapped_of (handed-on c.from_residual.result why c.from_residual.ensures.1) ∙ ap maps_refused told
+    let p = err_from_is_err_and c.from_residual.result c.from_residual.ensures.1 in
+    ap mapped_of (p.1 ∙ ap Err p.2) ∙ ap maps_refused told
     ∙ sym (reading-refused c.args.messages.now text (header_of text) refl (λ z. told-some why (ap (λ (r : Refusal). r.number) told ∙ z)))
 
 pub overflow_add-e : goal.overflow_add-e
