@@ -16,7 +16,6 @@ use Rattle.protocol.specs.whole.Whole.{Reading}
 use Rattle.protocol.specs.Reading.{read_protocol_lem}
 use Rattle.mapping.specs.Mapped.{Mapped}
 use Rattle.answers.specs.Answers.{refused_at_lem, Listed}
-use Rattle.plan_listing.specs.PlanText.{first_messages}
 use Rattle.plan_listing.proofs.Lines.{have-rows}
 use Rattle.judge_listing.specs.fit.FitText.{fit_text}
 use Rattle.judge_listing.specs.JudgeText.{unfit_text, word_in, steps_from, steps_around}
