@@ -40,6 +40,6 @@ pub fn judge_of(t: Tables, networks: [Network; tables::MESSAGES]) -> JudgementFo
     let mut causes = table_rows::causes::causes_rows(t);
     let stalls = table_rows::stalls::stalls_rows(t);
     let waits = waits::waits_of(&mut causes, &stalls, n);
-    let steps = waits::steps::steps_of(waits, stalls, networks, n);
+    let steps = waits::steps::steps_of(&waits, &stalls, &networks, n);
     judge_of_rows(waits, &steps, n)
 }

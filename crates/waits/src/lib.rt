@@ -29,15 +29,14 @@ pub fn pairs(rows: &[u64], n: usize) -> usize
     ensures { RowPairs n rows.now result }
 {
     let mut sum: usize = 0;
-    let mut i: usize = 0;
-    while i < n {
-        sum += rows::ones(rows[i]) as usize;
-        i += 1;
+    for row in &rows[..n] {
+        sum += rows::ones(*row) as usize;
     }
     sum
 }
 
 // The rows of waits of n messages, by rule 4. The other rows are 0. The rows of causes are closed on the way, where they stand.
+// Beside `waits`, which the relations call lends a table as long as its form asks: here the table is made, and two callers need not clear one.
 pub fn waits_of(causes: &mut [u64], stalls: &[u64], n: usize) -> [u64; WIDTH]
     requires { (n ≤ 64) × (n ≤ length causes.old) × (n ≤ length stalls.now) × Tidy n causes.old × Tidy n stalls.now }
     ensures closure { Closure n causes.old causes.new }

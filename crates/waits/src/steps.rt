@@ -6,9 +6,9 @@ use rows::WIDTH;
 use rules::{Message, Network};
 
 // The row with k, if m queues behind k.
-fn with_behind(row: u64, networks: [Network; WIDTH], stalled: u64, m: Message, k: Message) -> u64
+fn with_behind(row: u64, networks: &[Network; WIDTH], stalled: u64, m: Message, k: Message) -> u64
     requires { (m.0 < 64) × (k.0 < 64) }
-    ensures { WithBehind (mapping_of_lem networks) stalled m.0 k.0 row result }
+    ensures { WithBehind (mapping_of_lem networks.now) stalled m.0 k.0 row result }
 {
     if m.0 == k.0 {
         return row;
@@ -27,38 +27,34 @@ fn with_behind(row: u64, networks: [Network; WIDTH], stalled: u64, m: Message, k
 }
 
 // The messages, of the first n, behind which m queues.
-fn queues_row(networks: [Network; WIDTH], stalled: u64, n: usize, m: Message) -> u64
+fn queues_row(networks: &[Network; WIDTH], stalled: u64, n: usize, m: Message) -> u64
     requires { (n ≤ 64) × (m.0 < n) }
-    ensures { QueuesRow (mapping_of_lem networks) stalled n m.0 result }
+    ensures { QueuesRow (mapping_of_lem networks.now) stalled n m.0 result }
 {
     let mut row = 0u64;
-    let mut i = 0;
-    while i < n {
+    for i in 0..n {
         let k = Message(i as u8);
         row = with_behind(row, networks, stalled, m, k);
-        i += 1;
     }
     row
 }
 
 // The rows of waits and queues steps together, by rule 5. The rows from n on are 0.
 pub fn steps_of(
-    waits: [u64; WIDTH],
-    stalls: [u64; WIDTH],
-    networks: [Network; WIDTH],
+    waits: &[u64; WIDTH],
+    stalls: &[u64; WIDTH],
+    networks: &[Network; WIDTH],
     n: usize,
 ) -> [u64; WIDTH]
     requires { n ≤ 64 }
-    ensures { StepsRows 64 waits stalls (mapping_of_lem networks) n result }
+    ensures { StepsRows 64 waits.now stalls.now (mapping_of_lem networks.now) n result }
 {
     // the messages that something stalls
-    let stalled = rows::all_bits(&stalls, n);
+    let stalled = rows::all_bits(stalls, n);
     let mut steps = [0u64; WIDTH];
-    let mut i = 0;
-    while i < n {
+    for i in 0..n {
         let m = Message(i as u8);
         steps[i] = rows::join(waits[i], queues_row(networks, stalled, n, m));
-        i += 1;
     }
     steps
 }

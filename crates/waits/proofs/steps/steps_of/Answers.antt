@@ -9,7 +9,7 @@ use Rattle.waits.proofs.steps.steps_of.Goals as goal
 pub loop-i-init : goal.loop-i-init
 loop-i-init c =
     let a = c.args in
-    fill_start (IsSteps a.waits (mapping_of_lem a.networks) c.all_bits-stalled.result a.n) a.n (replicate 64 0)
+    fill_start (IsSteps a.waits.now (mapping_of_lem a.networks.now) c.all_bits-stalled.result a.n) a.n (replicate 64 0)
 
 pub queues_row-requires : goal.queues_row-requires
 queues_row-requires c = (c.requires, omega arith)
@@ -20,12 +20,12 @@ loop-i-preserved c =
     let d = c.all_bits-stalled.result in
     let l = c.loop-i in
     let q = c.queues_row in
-    fill_step (IsSteps a.waits (mapping_of_lem a.networks) d a.n) a.n (replicate 64 0) l.steps l.i c.join.result c.requires (omega arith)
-    (steps-row a.waits (mapping_of_lem a.networks) d a.n l.i q.result c.join.result q.ensures c.join.ensures) l.invariant
+    fill_step (IsSteps a.waits.now (mapping_of_lem a.networks.now) d a.n) a.n (replicate 64 0) l.steps l.i c.join.result c.requires (omega arith)
+    (steps-row a.waits.now (mapping_of_lem a.networks.now) d a.n l.i q.result c.join.result q.ensures c.join.ensures) l.invariant
 
 pub returns : goal.returns
 returns c =
     let a = c.args in
     let d = c.all_bits-stalled in
     let l = c.loop-i in
-    steps-end 64 a.waits a.stalls (mapping_of_lem a.networks) d.result a.n l.steps l.i (omega arith) d.ensures l.invariant
+    steps-end 64 a.waits.now a.stalls.now (mapping_of_lem a.networks.now) d.result a.n l.steps l.i (omega arith) d.ensures l.invariant

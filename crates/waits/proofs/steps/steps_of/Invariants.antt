@@ -1,5 +1,4 @@
 -- `waits::steps::steps_of` meets its contract.
-use Prim.Native.Nat.{◌-◌}
 use lib.ListN.{replicate}
 use Rattle.rows.proofs.FillingRows.{FillingRows}
 use Rattle.waits.specs.steps.Steps.{mapping_of_lem}
@@ -8,6 +7,3 @@ use Rattle.waits.proofs.steps.steps_of.Given as goal
 
 abbrev pub invariant-loop-i : goal.invariant-loop-i
 invariant-loop-i l = FillingRows (IsSteps l.waits (mapping_of_lem l.networks) l.stalled l.n) l.n (replicate 64 0) l.steps l.i
-
-abbrev pub decreases-loop-i : goal.decreases-loop-i
-decreases-loop-i l = l.n - l.i
