@@ -4,6 +4,9 @@ ghost use Rattle.rows.specs.Closure.{KeptFrom, Cleared};
 ghost use Rattle.walks.specs.Walks.{Within, Cycle};
 ghost use Rattle.walks.specs.Sets.{Below, After, Shortest, StartIs, BestStart, Layers, Drawn};
 
+// The rows w of first steps and s of all steps, and n, go side by side, as `cycle` is lent them: a struct of the three would be made in `cycle` alone
+// and taken apart in each function, and each contract would speak of its fields.
+
 // Where the shortest closed walks begin.
 #[derive(Clone, Copy)]
 struct Start {
