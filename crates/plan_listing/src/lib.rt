@@ -1,4 +1,5 @@
 // The listing of a plan: the lines that both classes begin with. Each line is written at the front of what is lent.
+// Lengths and writers are functions of their own: one over a sink that counts or writes needs a trait, laws and two impls for a few sums.
 #![tactic(auto)]
 
 pub mod cycle;

@@ -45,18 +45,6 @@ fn map_length(name: Name, network: Network) -> usize
     MAP_FIXED + text::names::name_length(name) + digits(n)
 }
 
-// How many bytes the lines of all messages have.
-fn maps_length(messages: &[MessageRow], networks: &[Network]) -> usize
-    requires { length messages.now ≤ 64 }
-    ensures { TextLength (map_texts messages.now (network_numbers networks.now)) 2112 result }
-{
-    let mut total = 0;
-    for (row, network) in messages.iter().zip(networks) {
-        total += map_length(row.name, *network);
-    }
-    total
-}
-
 // The line of a message and its network.
 fn put_map(out: &mut [u8], name: Name, network: Network) -> usize
     requires { length (map_text (name_text name) network.0) ≤ length out.old }
@@ -71,16 +59,37 @@ fn put_map(out: &mut [u8], name: Name, network: Network) -> usize
     text::writers::more(out, e, text::words::NEWLINE)
 }
 
-// A line for each message.
-fn put_maps(out: &mut [u8], messages: &[MessageRow], networks: &[Network]) -> usize
-    requires { length (map_texts messages.now (network_numbers networks.now)) ≤ length out.old }
-    ensures { Wrote (map_texts messages.now (network_numbers networks.now)) out.old out.new result }
-{
-    let mut at = 0;
-    for (row, network) in messages.iter().zip(networks) {
-        at += put_map(&mut out[at..], row.name, *network);
+// The rows of at most 64 messages, and the network of each.
+#[derive(Clone, Copy)]
+struct MappedRows<'a> {
+    messages: &'a [MessageRow],
+    networks: &'a [Network],
+    ghost few: { length messages.now ≤ 64 },
+}
+
+impl MappedRows<'_> {
+    // How many bytes the lines of all messages have.
+    fn maps_length(&self) -> usize
+        ensures { TextLength (map_texts self.now.messages.now (network_numbers self.now.networks.now)) 2112 result }
+    {
+        let mut total = 0;
+        for (row, network) in self.messages.iter().zip(self.networks) {
+            total += map_length(row.name, *network);
+        }
+        total
     }
-    at
+
+    // A line for each message.
+    fn put_maps(&self, out: &mut [u8]) -> usize
+        requires { length (map_texts self.now.messages.now (network_numbers self.now.networks.now)) ≤ length out.old }
+        ensures { Wrote (map_texts self.now.messages.now (network_numbers self.now.networks.now)) out.old out.new result }
+    {
+        let mut at = 0;
+        for (row, network) in self.messages.iter().zip(self.networks) {
+            at += put_map(&mut out[at..], row.name, *network);
+        }
+        at
+    }
 }
 
 // Class 3: the listing of a plan, if there is room for it.
@@ -93,12 +102,13 @@ pub fn map_listing(
     requires { (length messages.now ≤ 64) × (count ≤ 64) }
     ensures { Listed (class_three messages.now (network_numbers networks.now) count) out.old out.new (listed_of result) }
 {
-    let needed = BEFORE_MAPS + digits(count as u8) + maps_length(messages, networks);
+    let mapped = MappedRows { messages, networks };
+    let needed = BEFORE_MAPS + digits(count as u8) + mapped.maps_length();
     if out.len() < needed {
         return Err(NoRoom { needed });
     }
     let a = crate::put_head(out, 3);
     let b = a + crate::put_number_line(&mut out[a..], text::words::NETWORKS, count as u32);
-    let end = b + put_maps(&mut out[b..], messages, networks);
+    let end = b + mapped.put_maps(&mut out[b..]);
     Ok(end)
 }

@@ -1,4 +1,5 @@
 // What is written behind what stands there already: a text, a number or a name, at a place of the output. Each is lent the rest of it.
+// Output and place are no struct: these functions are promised by name, a clause each (PROMISES.md).
 ghost use Rattle.std.specs.Prelude.{◌+◌, ◌≤◌, length};
 ghost use Rattle.text.specs.Name.{name_text};
 ghost use Rattle.text.specs.Written.{decimal, Pasted, Wrote};

@@ -1,6 +1,6 @@
 -- `text::writers::put_number` meets its contract.
 use mathlib.Core.Path.{◌≡◌, sym, ap}
-use lib.ListN.{length, length-set}
+use lib.ListN.{length}
 use Rattle.text.specs.Written.{decimal}
 use Rattle.text.proofs.Written.{decimal-small, length-step, number_small, number_step}
 use native.Mathlib.Omega.{arith}
@@ -24,12 +24,6 @@ put_number-at-requires t c = (search rules, omega (arith, length-step c.args.n (
 
 pub bounds-out-at : goal.bounds-out-at
 bounds-out-at t c = omega (arith, length-step c.args.n (omega arith), c.requires)
-
-pub overflow_add-result : goal.overflow_add-result
-overflow_add-result t c = omega (arith, length-step c.args.n (omega arith))
-
-pub shape_of-out : goal.shape_of-out
-shape_of-out t c = simp length-set c.put_number-at.auto.out
 
 pub returns : goal.returns
 returns t c =

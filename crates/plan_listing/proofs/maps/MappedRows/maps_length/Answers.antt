@@ -1,4 +1,4 @@
--- `plan_listing::maps::maps_length` meets its contract.
+-- `plan_listing::maps::MappedRows::maps_length` meets its contract.
 use mathlib.Core.Path.{◌≡◌, refl, ap}
 use mathlib.Core.List.{[], ◌∷◌, ◌++◌}
 use Prim.Native.Nat.{◌+◌}
@@ -8,7 +8,7 @@ use Rattle.std.proofs.lemmas.Slice.Zip.{zip_turn, zip_end}
 use Rattle.mapping.specs.Text.{map_texts}
 use Rattle.plan_listing.specs.PlanText.{first_networks}
 use Rattle.plan_listing.proofs.Lines.{maps-longer, maps-all, no_row, no_network_lem}
-use Rattle.plan_listing.proofs.maps.maps_length.Goals as goal
+use Rattle.plan_listing.proofs.maps.MappedRows.maps_length.Goals as goal
 
 pub loop-row-init : goal.loop-row-init
 unfolding map_texts first_networks
@@ -16,8 +16,8 @@ loop-row-init c = ((tt, tt), tt, record { exact = refl; few = omega arith })
 
 pub loop-row-preserved : goal.loop-row-preserved
 loop-row-preserved c =
-    let ms = c.args.messages.now in
-    let ns = c.args.networks.now in
+    let ms = c.args.self.now.messages.now in
+    let ns = c.args.self.now.networks.now in
     let seen = c.loop-row.yielded in
     let here =
     zip_turn ms ns seen c.into_iter-row-iterator.result c.loop-row.row-iterator c.next.new.self _ (cc) (cc) c.loop-row.yielded_by
@@ -30,8 +30,8 @@ loop-row-preserved c =
 
 pub returns : goal.returns
 returns c =
-    let ms = c.args.messages.now in
-    let ns = c.args.networks.now in
+    let ms = c.args.self.now.messages.now in
+    let ns = c.args.self.now.networks.now in
     let seen = c.loop-row.yielded in
     let many =
     zip_end ms ns seen c.into_iter-row-iterator.result c.loop-row.row-iterator c.next.new.self _ (cc) (cc) c.loop-row.yielded_by
@@ -39,5 +39,5 @@ returns c =
     let all = maps-all no_row no_network_lem ms ns (length seen) many in
     record {
       exact = omega (arith, c.loop-row.invariant.2.exact, ap length all);
-      few = omega (arith, c.loop-row.invariant.2.few, many, c.requires);
+      few = omega (arith, c.loop-row.invariant.2.few, many, c.args.self.now.few);
     }

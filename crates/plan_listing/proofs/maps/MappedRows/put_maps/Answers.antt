@@ -1,4 +1,4 @@
--- `plan_listing::maps::put_maps` meets its contract.
+-- `plan_listing::maps::MappedRows::put_maps` meets its contract.
 use mathlib.Core.Path.{◌≡◌, refl, subst}
 use mathlib.Core.List.{List, [], ◌∷◌, ◌++◌}
 use Prim.Native.Nat.{ℕ, ◌+◌, ◌≤◌}
@@ -12,7 +12,7 @@ use Rattle.mapping.specs.Text.{map_texts}
 use Rattle.plan_listing.specs.PlanText.{map_text, first_networks}
 use Rattle.plan_listing.proofs.Growing.{next-put}
 use Rattle.plan_listing.proofs.Lines.{maps_to, maps-more, maps-fit, map-room, maps-all, no_row, no_network_lem}
-use Rattle.plan_listing.proofs.maps.put_maps.Goals as goal
+use Rattle.plan_listing.proofs.maps.MappedRows.put_maps.Goals as goal
 
 pub loop-row-init : goal.loop-row-init
 unfolding map_texts first_networks
@@ -20,8 +20,8 @@ loop-row-init c = ((tt, tt), tt, refl, record { count = refl; bytes = refl })
 
 pub put_map-at-requires : goal.put_map-at-requires
 put_map-at-requires c =
-    let ms = c.args.messages.now in
-    let ns = c.args.networks.now in
+    let ms = c.args.self.now.messages.now in
+    let ns = c.args.self.now.networks.now in
     let seen = c.loop-row.yielded in
     let row = c.in-Some.row.now in
     let network = c.in-Some.network.now in
@@ -33,8 +33,8 @@ put_map-at-requires c =
 
 pub loop-row-preserved : goal.loop-row-preserved
 loop-row-preserved c =
-    let ms = c.args.messages.now in
-    let ns = c.args.networks.now in
+    let ms = c.args.self.now.messages.now in
+    let ns = c.args.self.now.networks.now in
     let seen = c.loop-row.yielded in
     let row = c.in-Some.row.now in
     let network = c.in-Some.network.now in
@@ -50,8 +50,8 @@ loop-row-preserved c =
 
 pub returns : goal.returns
 returns c =
-    let ms = c.args.messages.now in
-    let ns = c.args.networks.now in
+    let ms = c.args.self.now.messages.now in
+    let ns = c.args.self.now.networks.now in
     let seen = c.loop-row.yielded in
     let many =
     zip_end ms ns seen c.into_iter-row-iterator.result c.loop-row.row-iterator c.next.new.self _ (cc) (cc) c.loop-row.yielded_by
