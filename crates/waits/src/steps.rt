@@ -10,20 +10,12 @@ fn with_behind(row: u64, networks: &[Network; WIDTH], stalled: u64, m: Message, 
     requires { (m.0 < 64) × (k.0 < 64) }
     ensures { WithBehind (mapping_of_lem networks.now) stalled m.0 k.0 row result }
 {
-    if m.0 == k.0 {
-        return row;
-    }
-    let from = m.index();
     let to = k.index();
-    let own: Network = networks[from];
-    let other: Network = networks[to];
-    if own.0 != other.0 {
-        return row;
+    if m != k && networks[m.index()] == networks[to] && rows::has(stalled, to) {
+        rows::with_bit(row, to)
+    } else {
+        row
     }
-    if !rows::has(stalled, to) {
-        return row;
-    }
-    rows::with_bit(row, to)
 }
 
 // The messages, of the first n, behind which m queues.

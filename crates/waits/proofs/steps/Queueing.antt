@@ -1,42 +1,19 @@
 -- Rule 5 in rows: what the loops over the messages keep.
 use Prim.Native.Nat.{ℕ, ◌+◌, ◌<◌, ◌≤◌}
-use mathlib.Core.Path.{◌≡◌, sym, subst, ap, ◌∙◌}
-use mathlib.Core.Bool.{Bool, true, false}
-use mathlib.Core.Logic.{◌⊎◌, inl, inr, ⊎_elim, ◌≢◌, ◌↔◌}
+use mathlib.Core.Path.{◌≡◌, sym, subst}
+use mathlib.Core.Logic.{◌⊎◌, inl, inr, ⊎_elim, ◌↔◌}
 use mathlib.Core.List.{List, []}
 use native.Mathlib.Decide.{ℕ_discrete}
 use native.Mathlib.Omega.{arith}
 use lib.ListN.{get_or, replicate}
 use Rattle.rules.specs.Rules.{Mapping, Queues}
 use Rattle.rows.specs.Rows.{Bit, AllBits, of_rows}
-use Rattle.rows.specs.Row.{With, Join}
+use Rattle.rows.specs.Row.{Join}
 use Rattle.rows.proofs.Bits.{bit-zero}
-use Rattle.rows.proofs.Told.{told-false}
 use Rattle.rows.proofs.FillingRows.{FillingRows, fill-each, fill-kept}
 use Rattle.waits.specs.steps.Steps.{StepsRows, Behind, WithBehind, QueuesRow}
 
 module _ (φ : Mapping) (stalled m : ℕ) where
-  behind-added : (k row r : ℕ) → Behind φ stalled m k → With row k r → WithBehind φ stalled m k row r
-  behind-added k row r h w j = (λ b. ⊎_elim inl (λ e. inr (e, h)) ((w.bits j).0 b), λ x. (w.bits j).1 (⊎_elim inl (λ y. inr y.0) x))
-
-  pub behind-no : (k row : ℕ) → ¬ Behind φ stalled m k → WithBehind φ stalled m k row row
-  behind-no k row g j = (inl, ⊎_elim (λ b. b) (λ y. absurd (g y.1)))
-
-  -- the places of m and k are `from` and `to`
-  module _ (k row from to : ℕ) (at-m : from ≡ m) (at-k : to ≡ k) where
-    -- they are in two networks
-    pub behind-parted : φ from ≢ φ to → WithBehind φ stalled m k row row
-    behind-parted g = behind-no k row (λ b. g (ap φ at-m ∙ b.share ∙ sym (ap φ at-k)))
-
-    -- the row of stalled messages does not have k
-    pub behind-free : (r : Bool) → (r ≡ true) ↔ Bit stalled to → r ≡ false → WithBehind φ stalled m k row row
-    behind-free r f e = behind-no k row (λ b. told-false (Bit stalled to) r f e (subst (Bit stalled) (sym at-k) b.bit))
-
-    pub behind-yes : (r : ℕ) → m ≢ k → φ from ≡ φ to → Bit stalled to → With row to r → WithBehind φ stalled m k row r
-    behind-yes r d e b w =
-        let h : Behind φ stalled m k = record { differ = d; share = sym (ap φ at-m) ∙ e ∙ ap φ at-k; bit = subst (Bit stalled) at-k b } in
-        behind-added k row r h (subst (λ (i : ℕ). With row i r) at-k w)
-
   -- the bits of the row are those below k behind which m queues
   pub record Queueing (k row : ℕ) : Type 0 where
     pub bits : (j : ℕ) → Bit row j ↔ ((j < k) × Behind φ stalled m j)
