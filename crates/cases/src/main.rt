@@ -169,8 +169,8 @@ fn print_tables(rt: &impl Print, t: Tables) -> io::Result<()>
         "accepted {} {} {} {}",
         t.message_count, t.event_count, t.state_count, t.cell_count
     )?;
-    let causes = table_rows::causes::causes_rows(t);
-    let stalls = table_rows::stalls::stalls_rows(t);
+    let causes = table_rows::causes::causes_rows(&t);
+    let stalls = table_rows::stalls::stalls_rows(&t);
     print!(rt; " causes")?;
     print_rows(rt, &causes[..t.message_count])?;
     print!(rt; " stalls")?;

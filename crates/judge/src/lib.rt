@@ -22,7 +22,7 @@ fn judge_tables(
     requires { TablesOk t.now × (0 < t.now.message_count) }
     ensures { JudgementWritten t.now (mapping_of_lem networks) out.old out.new (listed_of result) }
 {
-    let found = verdicts::judgement::judge_of(*t, networks);
+    let found = verdicts::judgement::judge_of(t, &networks);
     let Some(cycle) = found.cycle else {
         return judge_listing::fit::fit_listing(out);
     };

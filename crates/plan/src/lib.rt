@@ -17,7 +17,7 @@ fn plan_tables(t: &Tables, out: &mut [u8]) -> Result<usize, NoRoom>
     requires { TablesOk t.now × (0 < t.now.message_count) }
     ensures { PlanWritten t.now out.old out.new (listed_of result) }
 {
-    match verdicts::plan_of(*t) {
+    match verdicts::plan_of(t) {
         PlanFound::Ranked { count, networks } => {
             let mapping = &networks[..t.message_count];
             plan_listing::maps::map_listing(t.messages(), mapping, count, out)

@@ -16,8 +16,7 @@ pub(crate) fn finished(t: &Tables) -> Result<(), Refused>
     if messages == 0 {
         return Err(Refused::whole(Reason::NoMessage, 0));
     }
-    let i = table_rows::entries::no_entry(*t);
-    if i < t.cell_count {
+    if let Some(i) = table_rows::entries::no_entry(t) {
         let line = 2 + messages + t.event_count + t.state_count + i;
         return Err(Refused::whole(Reason::NoEntry, line));
     }

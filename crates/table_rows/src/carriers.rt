@@ -2,58 +2,46 @@
 ghost use Rattle.std.specs.Prelude.{◌↔◌, ℕ};
 ghost use Rattle.rules.specs.Rules.{Carrier};
 ghost use Rattle.rows.specs.Rows.{Bit};
-ghost use Rattle.tables.specs.Cells.{as_rule_cell, as_rule_trigger, sent_numbers, CellOk, TablesOk};
-ghost use Rattle.tables.specs.Relations.{Adds, CarrierRows};
-ghost use Rattle.table_rows.specs.carriers.AtCell.{CellCarries};
+ghost use Rattle.tables.specs.Cells.{as_rule_trigger, sent_numbers, CellOk, TablesOk};
+ghost use Rattle.tables.specs.Relations.{CarrierRows};
 
+use crate::by_cells::CellRule;
+use rows::WIDTH;
 use tables::{Cell, Outcome, Tables, Trigger};
 
 // The carriers of a cell: its trigger if that is a message, else the messages it sends.
-fn carriers(d: Cell) -> u64
-    requires { CellOk 64 8 64 d }
-    ensures { (a : ℕ) → Bit result a ↔ Carrier (as_rule_trigger d.trigger) (sent_numbers d) a }
+fn carrier_row(d: &Cell) -> u64
+    requires { CellOk 64 8 64 d.now }
+    ensures { (a : ℕ) → Bit result a ↔ Carrier (as_rule_trigger d.now.trigger) (sent_numbers d.now) a }
 {
-    let t = d.trigger;
-    match t {
+    match d.trigger {
         Trigger::Message(m) => rows::with_bit(0, m.index()),
         Trigger::Event(_) => crate::sent::sent_row(d),
     }
 }
 
-// Rule 2 at one cell: the rows with the carriers of d, if it enters a state.
-fn with_carriers(rows: [u64; tables::STATES], d: Cell) -> [u64; tables::STATES]
-    requires { CellOk 64 8 64 d }
-    ensures { Adds (CellCarries (as_rule_cell d)) rows result }
-{
-    let o = d.outcome;
-    match o {
-        Outcome::Stall => rows,
-        Outcome::Go(s) => {
-            if s.0 == d.state.0 {
-                return rows;
-            }
+// Rule 2 at one cell: its carriers carry to the state that it enters.
+struct Carriers;
+
+impl CellRule for Carriers {
+    ghost use Rattle.table_rows.specs.carriers.AtCell.{CellCarries};
+
+    ghost gives = { λ _ c s a. CellCarries c s a };
+
+    fn add(&self, cell: &Cell, rows: &mut [u64; WIDTH]) {
+        if let Outcome::Go(s) = cell.outcome
+            && s != cell.state
+        {
             let i = s.index();
-            let row = carriers(d);
-            let mut next = rows;
-            next[i] = next[i] | row;
-            next
+            rows[i] = rows::join(rows[i], carrier_row(cell));
         }
     }
 }
 
 // Rule 2: which messages carry to which state.
-pub(crate) fn carrier_rows(t: Tables) -> [u64; tables::STATES]
-    requires { TablesOk t }
-    ensures { CarrierRows t result }
+pub(crate) fn carrier_rows(t: &Tables) -> [u64; tables::STATES]
+    requires { TablesOk t.now }
+    ensures { CarrierRows t.now result }
 {
-    let n = t.cell_count;
-    let mut rows = [0u64; tables::STATES];
-    let mut i = 0;
-    while i < n {
-        let entering = t.cells[i];
-        let next = with_carriers(rows, entering);
-        rows = next;
-        i += 1;
-    }
-    rows
+    crate::by_cells::rows_of(&Carriers, t.cells())
 }

@@ -7,18 +7,14 @@ ghost use Rattle.tables.specs.Cells.{sent_numbers, CellOk};
 use tables::Cell;
 
 // The messages that a cell sends, as a row.
-pub(crate) fn sent_row(d: Cell) -> u64
-    requires { CellOk 64 8 64 d }
-    ensures { (b : ℕ) → Bit result b ↔ (b ∈ sent_numbers d) }
+pub(crate) fn sent_row(d: &Cell) -> u64
+    requires { CellOk 64 8 64 d.now }
+    ensures { (b : ℕ) → Bit result b ↔ (b ∈ sent_numbers d.now) }
 {
-    let n = d.sent_count as usize;
-    let sent = d.sent;
+    let sent = &d.sent[..d.sent_count as usize];
     let mut row = 0u64;
-    let mut i = 0;
-    while i < n {
-        let m = sent[i];
+    for m in sent {
         row = rows::with_bit(row, m.index());
-        i += 1;
     }
     row
 }

@@ -12,8 +12,8 @@ use Rattle.rows.specs.Rows.{Bit}
 use Rattle.rows.proofs.Bits.{bit-zero}
 use Rattle.tables.specs.declared.Cell.{Cell}
 use Rattle.tables.specs.Cells.{as_rule_cell}
-use Rattle.tables.specs.Relations.{Adds}
-use Rattle.tables.proofs.Gather.{gather_none, gather-more, gather-done}
+use Rattle.tables.specs.Relations.{Adds, RowsOf}
+use Rattle.tables.proofs.Gather.{gather_none, gather-more, gather-all}
 
 pub get_or-zeros : (n a : ℕ) → ◌≡◌ {A = ℕ} (get_or (replicate n 0) a 0) 0
 get_or-zeros n a = pick (dec_lt a n)
@@ -33,5 +33,5 @@ module _ (R : RuleCell → ℕ → ℕ → Type 0) (cells : List Cell) where
   pub upto-more : (i : ℕ) (z : Cell) (rows new : List ℕ) → i < length cells → Adds (R (as_rule_cell (get_or cells i z))) rows new → Upto R cells i rows → Upto R cells (i + 1) new
   upto-more i z rows new h e g a b = gather-more as_rule_cell (λ c. R c a b) (Bit (get_or rows a 0) b) (Bit (get_or new a 0) b) cells i z h (e a b) (g a b)
 
-  pub upto_done : (i n : ℕ) (rows : List ℕ) → i ≤ n → n ≤ i → Upto R cells i rows → Upto R cells n rows
-  upto_done i n rows h k g a b = gather-done as_rule_cell (λ c. R c a b) (Bit (get_or rows a 0) b) cells i n h k (g a b)
+  pub upto-all : (i : ℕ) (rows : List ℕ) → length cells ≤ i → Upto R cells i rows → RowsOf (λ a b. Some (λ c. R c a b) (map as_rule_cell cells)) rows
+  upto-all i rows h g a b = gather-all as_rule_cell (λ c. R c a b) (Bit (get_or rows a 0) b) cells i h (g a b)

@@ -6,7 +6,8 @@ use mathlib.Core.List.{List, [], ◌∷◌, ◌++◌, map}
 use native.Mathlib.Numerals.{add-one}
 use native.Mathlib.Omega.{arith}
 use lib.ListN.{length, take, get_or}
-use lib.Seq.{take-suc, get_or-take, length-take-le}
+use lib.Seq.{take-suc}
+use Rattle.std.proofs.lemmas.List.{take_all}
 use Rattle.rules.specs.Lists.{◌∈◌, Some}
 use Rattle.tables.specs.Cells.{Each}
 
@@ -41,8 +42,8 @@ module _ {A B : Type 0} (f : A → B) (P : B → Type 0) where
         λ s. e.1 (⊎_elim (λ t. inl (g.1 t)) (λ p. inr p) (r.0 s)),
       )
 
-  pub gather-done : (X : Type 0) (l : List A) (i n : ℕ) → i ≤ n → n ≤ i → X ↔ Some P (map f (take i l)) → X ↔ Some P (map f (take n l))
-  gather-done X l i n h k g = let e : i ≡ n = omega arith in subst (λ (m : ℕ). X ↔ Some P (map f (take m l))) e g
+  pub gather-all : (X : Type 0) (l : List A) (i : ℕ) → length l ≤ i → X ↔ Some P (map f (take i l)) → X ↔ Some P (map f l)
+  gather-all X l i h g = subst (λ (m : List A). X ↔ Some P (map f m)) (take_all i l h) g
 
 -- a number is in a list where some element is that number
 pub in_some : (x : ℕ) (l : List ℕ) → (x ∈ l) ↔ Some (λ y. x ≡ y) l
@@ -58,8 +59,11 @@ module _ {A : Type 0} (P : A → Type 0) where
   each_at (x ∷ l) zero z a h = a.0
   each_at (x ∷ l) (suc i) z a h = each_at l i z a.1 (omega arith)
 
-  pub each_take : (l : List A) (n i : ℕ) (z : A) → Each P (take n l) → i < n → n ≤ length l → P (get_or l i z)
-  each_take l n i z a h k = subst P (get_or-take n l i z h) (each_at (take n l) i z a (omega (arith, length-take-le n l k)))
+  pub each_part : (l : List A) (n : ℕ) → Each P l → Each P (take n l)
+  unfolding Each
+  each_part l zero a = tt
+  each_part [] (suc n) a = tt
+  each_part (x ∷ l) (suc n) a = (a.0, each_part l n a.1)
 
   pub each_snoc : (l : List A) (x : A) → Each P l → P x → Each P (l ++ (x ∷ []))
   unfolding Each

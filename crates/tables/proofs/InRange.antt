@@ -1,12 +1,9 @@
 -- Tables whose numbers are in range.
 use Prim.Native.Nat.{ℕ, ◌≤◌, ◌<◌}
-use mathlib.Core.Path.{◌≡◌, sym, subst, ap, ◌∙◌}
+use mathlib.Core.Path.{◌≡◌, subst}
 use mathlib.Core.Logic.{◌↔◌}
 use mathlib.Core.List.{List, [], ◌∷◌, map}
 use native.Mathlib.Omega.{arith}
-use lib.ListN.{length, get_or}
-use lib.Seq.{get_or-take}
-use Rattle.text.proofs.Parts.{get_or-within}
 use Rattle.rules.specs.Rules.{message, go, Causes, Carries, LeadsInto, Stalls, Cell as RuleCell}
 use Rattle.rules.specs.Promises.{Accepted}
 use Rattle.rules.proofs.Given.{InRange, Every, some-every, tables-accepted}
@@ -16,12 +13,11 @@ use Rattle.tables.specs.declared.Trigger.TheVariants.{Message as OnMessage, Even
 use Rattle.tables.specs.declared.Outcome.{Outcome}
 use Rattle.tables.specs.declared.Outcome.TheVariants.{Stall, Go}
 use Rattle.tables.specs.declared.Cell.{Cell}
-use Rattle.tables.specs.declared.StateRow.{StateRow}
 use Rattle.tables.specs.declared.Tables.{Tables}
-use Rattle.tables.specs.Tables.{no_state_row, stored_of}
-use Rattle.tables.specs.Cells.{as_rule_trigger, as_rule_outcome, as_rule_cell, cells_of, is_transient, transient_of, relations_of_tables, Each, TriggerOk, OutcomeOk, CellOk, TablesOk}
+use Rattle.tables.specs.Tables.{stored_of}
+use Rattle.tables.specs.Cells.{as_rule_trigger, as_rule_outcome, as_rule_cell, cells_of, transient_of, relations_of_tables, Each, TriggerOk, OutcomeOk, CellOk, TablesOk}
 use Rattle.tables.specs.Relations.{CausesRows, StallsRows}
-use Rattle.tables.proofs.Gather.{each_take}
+use Rattle.tables.proofs.Gather.{each_map}
 
 trigger-more : (m n e f : ℕ) → m ≤ n → e ≤ f → (t : Trigger) → TriggerOk m e t → TriggerOk n f t
 trigger-more m n e f h k (OnMessage x) p = omega arith
@@ -41,15 +37,11 @@ cell-more m n e f s u h k l c ok = record {
   sent = λ b q. omega (arith, ok.sent b q);
 }
 
--- the numbers of a stored cell are within the counts
-pub stored_at : (t : Tables) (i : ℕ) (z : Cell) → TablesOk t → length t.cells ≡ 512 → i < t.cell_count → CellOk t.message_count t.event_count t.state_count (get_or t.cells i z)
-stored_at t i z ok e h = each_take (CellOk t.message_count t.event_count t.state_count) t.cells t.cell_count i z ok.cells h (omega (arith, ok.few))
-
--- and so within the limits
-pub cell-at : (t : Tables) (i : ℕ) (z : Cell) → TablesOk t → length t.cells ≡ 512 → i < t.cell_count → CellOk 64 8 64 (get_or t.cells i z)
-cell-at t i z ok e h =
-    cell-more t.message_count 64 t.event_count 8 t.state_count 64 ok.messages ok.events ok.states (get_or t.cells i z)
-    (stored_at t i z ok e h)
+-- the numbers of the stored cells are within the limits
+pub cells-ok : (t : Tables) → TablesOk t → Each (CellOk 64 8 64) (stored_of t)
+cells-ok t ok =
+    each_map (CellOk t.message_count t.event_count t.state_count) (CellOk 64 8 64)
+    (cell-more t.message_count 64 t.event_count 8 t.state_count 64 ok.messages ok.events ok.states) (stored_of t) ok.cells
 
 -- ---- the relations of such tables are accepted
 
@@ -91,11 +83,6 @@ leads-within t ok r s l =
 -- and one that some cell enters
 pub carries-within : (t : Tables) → TablesOk t → (a s : ℕ) → Carries (cells_of t) a s → s < t.state_count
 carries-within t ok a s k = some-every _ _ _ (λ c q w. w.1 s q.0.0) (cells_of t) k (states-within t ok)
-
--- what is stored of a state tells whether it is transient
-pub transient-at : (t : Tables) (s : ℕ) (z : StateRow) → s < t.state_count → s < length t.states → is_transient (get_or t.states s z).stability ≡ transient_of t s
-unfolding transient_of
-transient-at t s z h k = ap (λ (r : StateRow). is_transient r.stability) (get_or-within t.states s z no_state_row k ∙ sym (get_or-take t.state_count t.states s no_state_row h))
 
 pub relations-accepted : (t : Tables) → TablesOk t → 0 < t.message_count → Accepted (relations_of_tables t)
 relations-accepted t ok h = tables-accepted t.message_count (transient_of t) (cells_of t) h (cells-in-range t ok)

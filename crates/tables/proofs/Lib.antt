@@ -1,5 +1,4 @@
 pub mod Gather
-pub mod Apart
 pub mod Adding
 pub mod AllCells
 pub mod InRange

@@ -1,5 +1,5 @@
 -- What the rows say: rules 1 to 3 over all the cells, and refusal 13.
-use Rattle.std.specs.Prelude.{ℕ, ◌≤◌, ◌<◌, ◌⊎◌, ◌↔◌, List, get_or}
+use Rattle.std.specs.Prelude.{ℕ, ◌≤◌, ◌<◌, ◌⊎◌, ◌↔◌, List, get_or, Option, None, Some}
 use Rattle.rules.specs.Rules.{Causes, Carries, LeadsInto, Taken, Staller, Stalls, NoEntry, Cell as RuleCell}
 use Rattle.rows.specs.Rows.{Bit}
 use Rattle.tables.specs.declared.Tables.{Tables}
@@ -47,3 +47,8 @@ pub record FirstNoEntry (t : Tables) (r : ℕ) : Type 0 where
   pub within : r ≤ t.cell_count
   pub earlier : (i : ℕ) → i < r → ¬ NoEntry (transient_of t) (cells_of t) (cell_at t i)
   pub found : r < t.cell_count → NoEntry (transient_of t) (cells_of t) (cell_at t r)
+
+-- What a search for that cell finds: its number, or nothing where there is none.
+abbrev pub NoEntryFound : Tables → Option ℕ → Type 0
+NoEntryFound t None = FirstNoEntry t t.cell_count
+NoEntryFound t (Some r) = FirstNoEntry t r × (r < t.cell_count)

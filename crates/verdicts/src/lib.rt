@@ -76,9 +76,9 @@ fn plan_of_rows(waits: &[u64; tables::MESSAGES], n: usize) -> PlanFound
 }
 
 // The plan of the tables.
-pub fn plan_of(t: Tables) -> PlanFound
-    requires { TablesOk t × (0 < t.message_count) }
-    ensures { PlanIs (relations_of_tables t) result }
+pub fn plan_of(t: &Tables) -> PlanFound
+    requires { TablesOk t.now × (0 < t.now.message_count) }
+    ensures { PlanIs (relations_of_tables t.now) result }
 {
     let n = t.message_count;
     let mut causes = table_rows::causes::causes_rows(t);

@@ -11,7 +11,7 @@ pub stalls_rows-stalls-requires : goal.stalls_rows-stalls-requires
 stalls_rows-stalls-requires c = c.requires.0
 
 pub waits_of-waits-requires : goal.waits_of-waits-requires
-waits_of-waits-requires c = (c.requires.0.messages, search rules, search rules, causes-tidy c.args.t c.requires.0 c.requires.1 c.causes_rows-causes.result c.causes_rows-causes.ensures, stalls-tidy c.args.t c.requires.0 c.requires.1 c.stalls_rows-stalls.result c.stalls_rows-stalls.ensures)
+waits_of-waits-requires c = (c.requires.0.messages, search rules, search rules, causes-tidy c.args.t.now c.requires.0 c.requires.1 c.causes_rows-causes.result c.causes_rows-causes.ensures, stalls-tidy c.args.t.now c.requires.0 c.requires.1 c.stalls_rows-stalls.result c.stalls_rows-stalls.ensures)
 
 pub plan_of_rows-requires : goal.plan_of_rows-requires
 plan_of_rows-requires c = (c.requires.1, c.requires.0.messages)
@@ -21,5 +21,5 @@ returns c =
     let w = c.waits_of-waits in
     let g = c.stalls_rows-stalls in
     let f = c.causes_rows-causes in
-    c.plan_of_rows.ensures c.args.t c.requires.0 c.requires.1 refl
-    (waits-told c.args.t c.requires.0 c.requires.1 f.result g.result f.ensures g.ensures w.result w.ensures.waits_only)
+    c.plan_of_rows.ensures c.args.t.now c.requires.0 c.requires.1 refl
+    (waits-told c.args.t.now c.requires.0 c.requires.1 f.result g.result f.ensures g.ensures w.result w.ensures.waits_only)

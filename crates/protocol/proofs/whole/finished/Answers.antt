@@ -7,14 +7,13 @@ use Rattle.protocol.proofs.whole.finished.Goals as goal
 pub returns-then-messages-eq0 : goal.returns-then-messages-eq0
 returns-then-messages-eq0 c = c.whole.ensures ∙ no-message c.args.t.now c.if-messages-eq0.true
 
-pub returns-then-i-t : goal.returns-then-i-t
-returns-then-i-t c =
+pub returns-in-Some : goal.returns-in-Some
+returns-in-Some c =
     let t = c.args.t.now in
-    let i = c.no_entry-i in
-    c.whole-then-i-t.ensures ∙ no-entry t i.result (λ e. omega arith) (entry_place t i.result c.requires.long c.requires.ok.few i.ensures) c.if-i-t.true
+    let found = c.in-Some.ensures in
+    c.whole-in-Some.ensures ∙ no-entry t c.in-Some.i (λ e. omega arith) (entry_place t c.in-Some.i c.requires.long c.requires.ok.few found.0) found.1
 
 pub returns : goal.returns
 returns c =
     let t = c.args.t.now in
-    let i = c.no_entry-i in
-    all_right t i.result (λ e. omega arith) (entry_place t i.result c.requires.long c.requires.ok.few i.ensures) c.if-i-t.false
+    all_right t t.cell_count (λ e. omega arith) (entry_place t t.cell_count c.requires.long c.requires.ok.few c.in_default.ensures) (omega arith)

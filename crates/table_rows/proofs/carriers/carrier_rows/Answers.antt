@@ -1,28 +1,11 @@
 -- `table_rows::carriers::carrier_rows` meets its contract.
-use mathlib.Core.Path.{◌≡◌}
-use native.Mathlib.Omega.{arith}
-use lib.ListN.{length}
-use borrow.Author.Rules.{rules}
 use Rattle.tables.specs.Cells.{cells_of}
-use Rattle.table_rows.specs.carriers.AtCell.{CellCarries}
-use Rattle.tables.proofs.InRange.{cell-at}
-use Rattle.tables.proofs.AllCells.{upto-none, upto-more, upto_done}
+use Rattle.tables.proofs.InRange.{cells-ok}
 use Rattle.table_rows.proofs.carriers.carrier_rows.Goals as goal
 
-pub loop-i-init : goal.loop-i-init
-loop-i-init c = (search rules, upto-none CellCarries c.args.t.cells 64)
-
-pub with_carriers-next-requires : goal.with_carriers-next-requires
-with_carriers-next-requires c =
-    let long : length c.args.t.cells ≡ 512 = c.well_formed.0.1.1.1.1.1.0.1.0.1 in
-    cell-at c.args.t _ _ c.requires long (omega arith)
-
-pub loop-i-preserved : goal.loop-i-preserved
-loop-i-preserved c =
-    let long : length c.args.t.cells ≡ 512 = c.well_formed.0.1.1.1.1.1.0.1.0.1 in
-    let e = long in
-    (search rules, upto-more CellCarries c.args.t.cells c.loop-i.i _ c.loop-i.rows c.with_carriers-next.result (omega (arith, c.requires.few)) c.with_carriers-next.ensures c.loop-i.invariant.1)
+pub rows_of-requires : goal.rows_of-requires
+rows_of-requires c = rw c.cells.ensures.rows (cells-ok c.args.t.now c.requires)
 
 pub returns : goal.returns
 unfolding cells_of
-returns c = upto_done CellCarries c.args.t.cells c.loop-i.i c.args.t.cell_count c.loop-i.rows (omega arith) (omega arith) c.loop-i.invariant.1
+returns c = rw c.cells.ensures.rows at c.rows_of.ensures

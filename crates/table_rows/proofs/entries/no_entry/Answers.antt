@@ -1,65 +1,37 @@
 -- `table_rows::entries::no_entry` meets its contract.
-use Prim.Native.Nat.{ℕ, ◌<◌}
-use mathlib.Core.Path.{◌≡◌, sym, subst}
-use mathlib.Core.Bool.{true}
+use Prim.Native.Nat.{◌<◌}
+use mathlib.Core.Path.{sym, subst}
 use mathlib.Core.Logic.{◌↔◌}
-use native.Mathlib.Omega.{arith}
-use lib.ListN.{length, get_or}
-use borrow.Author.Count.{below_more}
-use borrow.Author.Rules.{rules}
-use Rattle.rules.specs.Rules.{NoEntry, Staller}
+use lib.ListN.{get_or}
+use Rattle.std.proofs.Common.{rules, tests}
+use Rattle.std.proofs.lemmas.Iterator.{YieldsList-from_slice, IsFirst-from_position}
+use Rattle.std.proofs.lemmas.Iterator.Adapters.{serves_from_places}
 use Rattle.rows.specs.Rows.{Bit}
 use Rattle.tables.specs.declared.Cell.{Cell}
-use Rattle.tables.specs.Tables.{no_cell_lem}
-use Rattle.tables.specs.Cells.{as_rule_cell, cells_of, transient_of}
-use Rattle.tables.specs.Relations.{cell_at}
-use Rattle.tables.proofs.Gather.{↔_trans}
-use Rattle.tables.proofs.InRange.{cell-at}
-use Rattle.text.proofs.Parts.{get_or-within}
-use Rattle.table_rows.proofs.entries.AtCell.{no-entry-row, zero_cell}
-use Rattle.table_rows.proofs.entries.no_entry.Goals.{After-index-own, After-lacks_entry}
+use Rattle.tables.specs.Cells.{as_rule_cell, CellOk, transient_of, cells_of}
+use Rattle.tables.proofs.InRange.{cells-ok}
+use Rattle.tables.proofs.Gather.{each_at}
+use Rattle.table_rows.specs.entries.AtCell.{CellNoEntry}
+use Rattle.table_rows.proofs.entries.AtCell.{Lacks, no-entry-row, first-found}
 use Rattle.table_rows.proofs.entries.no_entry.Goals as goal
 
--- the cell's own state has a row
-own : (c : After-index-own) → c.index-own.result < 64
-own c =
-    let long : length c.args.t.cells ≡ 512 = c.well_formed.0.1.1.1.1.1.0.1.0.1 in
-    rw c.index-own.ensures (cell-at c.args.t c.loop-i.i zero_cell c.requires long (omega arith)).own
-
--- what the answer at cell i says
-entry : (c : After-lacks_entry) → (c.lacks_entry.result ≡ true) ↔ NoEntry (transient_of c.args.t) (cells_of c.args.t) (cell_at c.args.t c.loop-i.i)
-entry c =
-    let t = c.args.t in
-    let i = c.loop-i.i in
-    let rows = c.staller_rows-stallers.result in
-    let d = get_or t.cells i zero_cell in
-    let s = c.index-own.result in
-    let e : length t.cells ≡ 512 = c.well_formed.0.1.1.1.1.1.0.1.0.1 in
-    subst (λ (x : Cell). (c.lacks_entry.result ≡ true) ↔ NoEntry (transient_of t) (cells_of t) (as_rule_cell x)) (get_or-within t.cells i zero_cell no_cell_lem (omega (arith, c.requires.few)))
-    (↔_trans c.lacks_entry.ensures
-    (no-entry-row (transient_of t) (cells_of t) (Bit (get_or rows s 0)) (as_rule_cell d)
-    (λ a. subst (λ (x : ℕ). Bit (get_or rows x 0) a ↔ Staller (transient_of t) (cells_of t) a d.state.0) (sym c.index-own.ensures) (c.staller_rows-stallers.ensures d.state.0 a))))
-
-pub staller_rows-stallers-requires : goal.staller_rows-stallers-requires
-staller_rows-stallers-requires c = c.requires
-
-pub loop-i-init : goal.loop-i-init
-loop-i-init c = (search rules, λ k h. absurd (omega arith))
-
-pub offset_bounds-stallers-own : goal.offset_bounds-stallers-own
-offset_bounds-stallers-own c = omega (arith, own (goal.at.offset_bounds-stallers-own c).After-index-own)
-
-pub bounds-stallers-own : goal.bounds-stallers-own
-bounds-stallers-own c = own (goal.at.bounds-stallers-own c).After-index-own
-
-pub returns-then-lacks_entry : goal.returns-then-lacks_entry
-returns-then-lacks_entry c =
-    record { within = omega arith; earlier = c.loop-i.invariant.1; found = λ h. (entry (goal.at.returns-then-lacks_entry c).After-lacks_entry).0 c.if-lacks_entry.true }
-
-pub loop-i-preserved : goal.loop-i-preserved
-loop-i-preserved c =
-    let e = entry (goal.at.loop-i-preserved c).After-lacks_entry in
-    (search rules, below_more _ _ c.loop-i.invariant.1 (λ t. let z : ◌≡◌ {A = ℕ} 0 1 = cc (e.1 t, c.if-lacks_entry.false) in omega arith))
+pub position-requires-clause-callable : goal.position-requires-clause-callable
+position-requires-clause-callable c =
+    let cells = c.cells.result.now in
+    serves_from_places (YieldsList-from_slice cells (cc)) (λ x q k. search (rules, tests))
+    (λ x k h e.
+    let ok : CellOk 64 8 64 x.now = subst (CellOk 64 8 64) (sym e) (each_at (CellOk 64 8 64) cells k x.now (rw c.cells.ensures.rows (cells-ok c.args.t.now c.requires)) h) in
+    let small : x.now.state.0 < 64 = ok.own in
+    search (rules, tests))
 
 pub returns : goal.returns
-returns c = record { within = omega arith; earlier = λ k h. c.loop-i.invariant.1 k (omega arith); found = λ h. absurd (omega arith) }
+returns c =
+    let t = c.args.t.now in
+    let s = c.staller_rows-stallers in
+    -- what the code asks of a cell, and what the rules say of it
+    let asked : (d : Cell) → CellNoEntry (Bit (get_or s.result d.state.0 0)) (as_rule_cell d) ↔ Lacks t d =
+    λ d. no-entry-row (transient_of t) (cells_of t) (Bit (get_or s.result d.state.0 0)) (as_rule_cell d) (λ a. s.ensures d.state.0 a) in
+    let first = IsFirst-from_position _ _ _ (Lacks t) (λ (d : Cell). ¬ Lacks t d) c.position.ensures.ran (YieldsList-from_slice c.cells.result.now (cc))
+    (λ x q k. let yes : CellNoEntry (Bit (get_or s.result x.now.state.0 0)) (as_rule_cell x.now) = search (rules, tests) in (asked x.now).0 yes)
+    (λ x q k. let no : ¬ CellNoEntry (Bit (get_or s.result x.now.state.0 0)) (as_rule_cell x.now) = search (rules, tests) in (search (rules, tests), λ h. no ((asked x.now).1 h))) in
+    first-found t (rw c.cells.ensures.rows at c.cells.ensures.many) c.position.result (rw c.cells.ensures.rows at first)

@@ -1,5 +1,5 @@
 -- `table_rows::stallers::add_own` meets its contract.
-use Prim.Native.Nat.{ℕ, ◌-◌}
+use Prim.Native.Nat.{ℕ}
 use mathlib.Core.List.{List}
 use lib.ListN.{get_or}
 use Rattle.rows.specs.Row.{With}
@@ -12,6 +12,3 @@ Own old i r = With (get_or old i 0) i r
 
 abbrev pub invariant-loop-i : goal.invariant-loop-i
 invariant-loop-i l = FillingRows (Own l.initial.rows) l.n l.initial.rows l.rows l.i
-
-abbrev pub decreases-loop-i : goal.decreases-loop-i
-decreases-loop-i l = l.n - l.i

@@ -6,4 +6,4 @@ pub returns : goal.returns
 returns c =
     let le = c.leading_rows-rows in
     let cl = c.closure in
-    taken-rows c.args.t c.requires le.result cl.new.t c.add_own.new.rows le.ensures cl.ensures.closure c.add_own.ensures
+    taken-rows c.args.t.now c.requires le.result cl.new.t c.add_own.new.rows le.ensures cl.ensures.closure c.add_own.ensures
