@@ -32,14 +32,14 @@ fn judge_of_rows(
 }
 
 // The judgement of a mapping, by rule 6.
-pub fn judge_of(t: Tables, networks: [Network; tables::MESSAGES]) -> JudgementFound
-    requires { TablesOk t × (0 < t.message_count) }
-    ensures { JudgementIs (relations_of_tables t) (mapping_of_lem networks) result }
+pub fn judge_of(t: &Tables, networks: &[Network; tables::MESSAGES]) -> JudgementFound
+    requires { TablesOk t.now × (0 < t.now.message_count) }
+    ensures { JudgementIs (relations_of_tables t.now) (mapping_of_lem networks.now) result }
 {
     let n = t.message_count;
     let mut causes = table_rows::causes::causes_rows(t);
     let stalls = table_rows::stalls::stalls_rows(t);
     let waits = waits::waits_of(&mut causes, &stalls, n);
-    let steps = waits::steps::steps_of(&waits, &stalls, &networks, n);
+    let steps = waits::steps::steps_of(&waits, &stalls, networks, n);
     judge_of_rows(waits, &steps, n)
 }

@@ -12,5 +12,5 @@ pub returns : goal.returns
 unfolding cells_of transient_of
 returns c =
     let t = c.args.t.now in
-    let f = rw (c.cells.ensures.rows, c.states.ensures) at c.rows_of.ensures in
+    let f = rw (c.cells.ensures.rows, c.states.ensures.rows) at c.rows_of.ensures in
     λ r s. ↔_trans (f r s) (leads-cells (transient_of t) (cells_of t) r s)
