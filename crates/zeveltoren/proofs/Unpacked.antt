@@ -1,15 +1,13 @@
 -- Each part of an answer is read from its place in the packed number.
 use Prim.Native.Nat.{ℕ}
-use mathlib.Core.Path.{◌≡◌, refl, sym, subst, ap, ◌∙◌}
+use mathlib.Core.Path.{refl, sym, subst}
 use mathlib.Core.List.{List}
 use native.Mathlib.Omega.{arith}
 use Rattle.relations.specs.answer.Packed.{RelationsUnpacked}
 use Rattle.relations.proofs.Calls.{call-small, unpack-relations}
-use Rattle.protocol.specs.whole.Whole.{Reading}
 use Rattle.protocol.specs.Reading.{read_protocol_lem}
 use Rattle.reading_laws.proofs.bounds.Bounds.{protocol-low}
-use Rattle.answers.specs.declared.Answer.{Answer}
-use Rattle.answers.specs.Answers.{refused_at_lem, Small, Unpacked}
+use Rattle.answers.specs.Answers.{Small, Unpacked}
 use Rattle.answers.proofs.Packing.{unpack}
 use Rattle.answers.proofs.Small.{small-refused}
 use Rattle.plan.proofs.PlanLongest.{plan-small}
@@ -20,9 +18,6 @@ use Rattle.zeveltoren.specs.Unpacked.{EveryRelations, EveryCheck, EveryPlanText,
 pub every-relations : EveryRelations
 every-relations size most n causes stalls old new k h p =
     subst (λ (j : ℕ). RelationsUnpacked j p.answer) (sym p.is) (unpack-relations p.answer (call-small size most n causes stalls old new p.answer p.call h))
-
-pub check-told : (text : List ℕ) (r : Reading) (a : Answer) → r ≡ read_protocol_lem text → a ≡ refused_at_lem r.refusal 0 → a ≡ checked text
-check-told text r a e f = f ∙ ap (λ (x : Reading). refused_at_lem x.refusal 0) e
 
 pub check-small : (text : List ℕ) → Small (checked text)
 check-small text =

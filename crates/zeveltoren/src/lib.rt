@@ -2,8 +2,11 @@
 // The crate zeveltoren_c exports them to C.
 #![tactic(auto)]
 
-ghost use Rattle.zeveltoren.specs.Packed.{PackedRelations, PackedCheck, PackedPlan, PackedJudgement};
+ghost use Rattle.std.specs.Prelude.{◌≡◌};
+ghost use Rattle.zeveltoren.specs.Packed.{PackedRelations, checked, PackedCheck, PackedPlan, PackedJudgement};
 
+use answers::Answer;
+use answers::unlisted::{Paper, Unlisted};
 use relations::answer::RelationsAnswer;
 
 // The relations call.
@@ -22,13 +25,21 @@ pub fn vn_relations64(n: u64, causes: &[u8], stalls: &[u8], out: &mut [u8]) -> u
     relations::answer::packed(RelationsAnswer::from(told))
 }
 
+// The answer of a reading: how the text is refused; every number is 0 where it is accepted.
+fn checked(text: &[u8]) -> Answer
+    ensures { result ≡ checked text.now }
+{
+    match protocol::read_protocol(text) {
+        Ok(_) => Answer::of(Ok(0)),
+        Err(why) => Answer::of(Err(Unlisted::Refused(why, Paper::Protocol))),
+    }
+}
+
 // Whether a protocol text is accepted, and else the refusal's number and line.
 pub fn vn_check_protocol(text: &[u8]) -> u64
     ensures { PackedCheck text.now result }
 {
-    let r = protocol::read_protocol(text);
-    let checked = answers::refused(r.refusal, 0);
-    answers::packed(checked)
+    answers::packed(checked(text))
 }
 
 // The plan of a protocol text.
@@ -36,7 +47,7 @@ pub fn vn_plan_text(text: &[u8], out: &mut [u8]) -> u64
     ensures { PackedPlan text.now out.old out.new result }
 {
     let planned = plan::plan(text, out);
-    answers::packed(planned)
+    answers::packed(Answer::of(planned))
 }
 
 // The judgement of a mapping text for a protocol text.
@@ -44,5 +55,5 @@ pub fn vn_judge_texts(protocol: &[u8], mapping: &[u8], out: &mut [u8]) -> u64
     ensures { PackedJudgement protocol.now mapping.now out.old out.new result }
 {
     let judged = judge::judge(protocol, mapping, out);
-    answers::packed(judged)
+    answers::packed(Answer::of(judged))
 }

@@ -16,10 +16,9 @@ use Rattle.rows.specs.Rows.{Bit, Rows, of_rows}
 use Rattle.rows.specs.Joins.{joins}
 use Rattle.rows.proofs.Given.{rows-accepted}
 use Rattle.rows.proofs.closure.Joining.{joins-same}
-use Rattle.walks.specs.Walks.{NoHeights, HeightsWritten, Heights, CycleWritten, Cycle}
+use Rattle.walks.specs.Walks.{HeightsWritten, Heights, Cycle}
 use Rattle.std.specs.Option.{IsSome}
 use Rattle.std.specs.Prelude.{Option, Some, None}
-use Rattle.rows.specs.Gather.{Tidy}
 use Rattle.waits.specs.Waiting.{WaitsRows, RowPairs}
 use Rattle.waits.proofs.Waiting.{waits-same}
 use Rattle.text.specs.Written.{Wrote}

@@ -2,20 +2,19 @@
 use Prim.Native.Nat.{ℕ, zero, suc, ◌+◌, ◌*◌, ◌<◌, ◌≤◌, ◌^◌}
 use mathlib.Core.Path.{◌≡◌, refl, sym, subst, ap, ◌∙◌}
 use mathlib.Core.Logic.{◌⊎◌, inl, inr, ◌≢◌}
-use mathlib.Core.List.{List, [], ◌∷◌}
+use mathlib.Core.List.{List}
 use native.Mathlib.Decide.{dec_lt}
 use native.Mathlib.Nat.{mul-zero, mul-suc}
 use native.Mathlib.Omega.{arith}
 use lib.ListN.{length, get_or, set, take, drop}
-use lib.Seq.{drop-cons, drop-drop}
+use lib.Seq.{drop-drop}
 use Rattle.rules.proofs.Search.{First, None, first_below}
 use Rattle.rows.specs.Rows.{Bit, Stray}
 use Rattle.rows.specs.Row.{Meet, AllBelow}
 use Rattle.rows.proofs.Bits.{bit?, same_bits}
 use Rattle.rows.proofs.FillingRows.{FillingRows, fill_step, fill-each, fill-kept}
 use Rattle.rows.proofs.Together.{Together}
-use Rattle.rows.specs.Gather.{Tidy}
-use Rattle.relations.specs.row_bytes.RowBytes.{RowSize, from_bytes, rows_of_bytes, row_at, Loaded}
+use Rattle.relations.specs.row_bytes.RowBytes.{from_bytes, rows_of_bytes, row_at, Loaded}
 
 -- ---- a row by its place
 
