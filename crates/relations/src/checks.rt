@@ -6,7 +6,8 @@ ghost use Rattle.relations.specs.checks.CallChecks.{is_wrong_count, relations_re
 use crate::answer::CallRefused;
 use crate::row_bytes::Table;
 
-// Refusal 17: the count, or a table of another length than it asks. There may be MOST messages.
+// Refusal 17: the count, or a table of another length than it asks. There may be MOST messages. What is asked of SIZE and MOST stands in `requires`,
+// because no value holds a const parameter, whose type could say it.
 fn wrong_count<const SIZE: usize, const MOST: usize>(n: usize, causes: &[u8], stalls: &[u8]) -> bool
     requires { RowSize SIZE × (MOST ≤ 64) }
     ensures { result ≡ is_wrong_count SIZE MOST n causes.now stalls.now }
@@ -27,10 +28,9 @@ pub(crate) fn first_check<const SIZE: usize, const MOST: usize>(
     if wrong_count::<SIZE, MOST>(n, causes, stalls) {
         return Err(CallRefused::Count);
     }
-    if Table::<SIZE>::of(causes, n).stray() {
-        return Err(CallRefused::Stray);
-    }
-    if Table::<SIZE>::of(stalls, n).stray() {
+    let causes: Table<SIZE> = Table::of(causes, n);
+    let stalls: Table<SIZE> = Table::of(stalls, n);
+    if causes.stray() || stalls.stray() {
         return Err(CallRefused::Stray);
     }
     if room < n {

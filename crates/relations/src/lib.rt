@@ -18,7 +18,8 @@ use rows::WIDTH;
 // How many messages the first form takes. The second takes as many as a row has bits.
 const FEW: usize = 32;
 
-// The relations call: the plan of n messages whose causes and stalls are given by two tables, written to the output.
+// The relations call: the plan of n messages whose causes and stalls are given by two tables, written to the output. The count, the tables and the
+// output are parameters of their own, because a host gives them so: the C interface.
 pub fn relations(
     n: usize,
     causes: &[u8],
@@ -56,7 +57,7 @@ fn call<const SIZE: usize, const MOST: usize>(
     ensures counted { IfOk result (λ p. p.networks ≢ Some 0) }
 {
     checks::first_check::<SIZE, MOST>(n, causes, stalls, out.len())?;
-    let causes = Table::<SIZE>::of(causes, n);
-    let stalls = Table::<SIZE>::of(stalls, n);
+    let causes: Table<SIZE> = Table::of(causes, n);
+    let stalls: Table<SIZE> = Table::of(stalls, n);
     Ok(plans::plan_tables::<SIZE, MOST>(&causes, &stalls, out))
 }
