@@ -1,5 +1,7 @@
 // The numbers that the paper keeps apart. Message, network and state numbers all start at 0, and one has been read as another before:
-// each is a type of its own, and only `index` turns one into the place of a row.
+// each is a type of its own, and only `index` turns one into the place of a row. It stays a method: by a `From` any call of `into`
+// would do that, and not say so. A loop over places writes `Message(i as u8)`: a constructor of its own would say no more, since the
+// check proves of each such cast that it loses nothing.
 #![tactic(auto)]
 
 ghost use Rattle.std.specs.Prelude.{◌≡◌};
