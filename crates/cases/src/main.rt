@@ -23,8 +23,8 @@ ghost use Rattle.std.specs.Prelude.{◌≤◌};
 ghost use Rattle.tables.specs.Cells.{TablesOk};
 ghost use Rattle.cases.specs.Printable.{Printable};
 
-use mapping::Mapped;
-use protocol::whole::Reading;
+use answers::unlisted::Paper;
+use papers::refused::Refused;
 use rules::Network;
 use std::io;
 use std::io::Read;
@@ -109,7 +109,7 @@ fn next_text<'a>(input: &mut impl Read, length: TextLength, room: &'a mut [u8; M
 }
 
 // What the protocol reader answers of the next text.
-fn protocol_of(input: &mut impl Read, length: TextLength) -> Reading
+fn protocol_of(input: &mut impl Read, length: TextLength) -> Result<Tables, Refused>
     ensures { Printable result }
 {
     let mut room = [0u8; MOST];
@@ -117,15 +117,15 @@ fn protocol_of(input: &mut impl Read, length: TextLength) -> Reading
 }
 
 // What the mapping reader answers of the next text, with the messages of these tables.
-fn mapping_of(input: &mut impl Read, length: TextLength, t: Tables) -> Mapped
-    requires { TablesOk t }
+fn mapping_of(
+    input: &mut impl Read,
+    length: TextLength,
+    t: &Tables,
+) -> Result<[Network; tables::MESSAGES], Refused>
+    requires { TablesOk t.now }
 {
     let mut room = [0u8; MOST];
-    mapping::read_mapping(
-        next_text(input, length, &mut room),
-        t.messages,
-        t.message_count,
-    )
+    mapping::read_mapping(next_text(input, length, &mut room), t.messages())
 }
 
 // Passes over the next text.
@@ -152,58 +152,62 @@ fn print_networks(rt: &impl Print, networks: &[Network]) -> io::Result<()> {
     Ok(())
 }
 
-fn print_refusal(
-    rt: &impl Print,
-    number: u8,
-    paper: usize,
-    line: usize,
-    field: u8,
-) -> io::Result<()> {
-    print!(rt; "refused {number} {paper} {line} {field}")
+fn print_refusal(rt: &impl Print, why: Refused, paper: Paper) -> io::Result<()> {
+    let r = why.refusal();
+    print!(rt;
+        "refused {} {} {} {}",
+        r.number,
+        paper.number(),
+        r.line,
+        r.field
+    )
 }
 
-fn print_tables(rt: &impl Print, t: Tables) -> io::Result<()>
-    requires { TablesOk t }
+fn print_tables(rt: &impl Print, t: &Tables) -> io::Result<()>
+    requires { TablesOk t.now }
 {
     print!(rt;
         "accepted {} {} {} {}",
         t.message_count, t.event_count, t.state_count, t.cell_count
     )?;
-    let causes = table_rows::causes::causes_rows(&t);
-    let stalls = table_rows::stalls::stalls_rows(&t);
+    let causes = table_rows::causes::causes_rows(t);
+    let stalls = table_rows::stalls::stalls_rows(t);
     print!(rt; " causes")?;
     print_rows(rt, &causes[..t.message_count])?;
     print!(rt; " stalls")?;
     print_rows(rt, &stalls[..t.message_count])
 }
 
-// What the protocol reader answers.
-fn print_reading(rt: &impl Print, r: Reading) -> io::Result<()>
-    requires { Printable r }
-{
-    let t = r.tables;
-    if r.refusal.number == 0 {
-        print_tables(rt, t)
-    } else {
-        print_refusal(rt, r.refusal.number, 0, r.refusal.line, r.refusal.field)
-    }
-}
-
-// What the mapping reader answers, of so many messages.
-fn print_mapped(rt: &impl Print, m: Mapped, count: usize) -> io::Result<()>
-    requires { count ≤ 64 }
-{
-    let networks = m.networks;
-    if m.refusal.number == 0 {
-        print!(rt; " networks")?;
-        print_networks(rt, &networks[..count])
-    } else {
-        print!(rt; " ")?;
-        print_refusal(rt, m.refusal.number, 1, m.refusal.line, m.refusal.field)
-    }
-}
-
 // ---- the answers
+
+// The answer of a protocol item.
+fn protocol_item(rt: &impl Print, input: &mut impl Read, protocol: TextLength) -> io::Result<()> {
+    match protocol_of(input, protocol) {
+        Ok(t) => print_tables(rt, &t),
+        Err(why) => print_refusal(rt, why, Paper::Protocol),
+    }
+}
+
+// The mapping's answer, behind that of its protocol.
+fn mapping_item(
+    rt: &impl Print,
+    input: &mut impl Read,
+    mapping: TextLength,
+    t: &Tables,
+) -> io::Result<()>
+    requires { TablesOk t.now }
+{
+    match mapping_of(input, mapping, t) {
+        Ok(networks) => {
+            print!(rt; " networks")?;
+            print_networks(rt, &networks[..t.message_count])
+        }
+        Err(why) => {
+            print!(rt; " ")?;
+            print_refusal(rt, why, Paper::Mapping)
+        }
+    }
+}
 
 // The answer of a judge item.
 fn judge_item(
@@ -212,21 +216,22 @@ fn judge_item(
     protocol: TextLength,
     mapping: TextLength,
 ) -> io::Result<()> {
-    let r = protocol_of(input, protocol);
-    print_reading(rt, r)?;
-    if r.refusal.number == 0 {
-        let m = mapping_of(input, mapping, r.tables);
-        print_mapped(rt, m, r.tables.message_count)
-    } else {
-        pass_over(input, mapping);
-        Ok(())
+    match protocol_of(input, protocol) {
+        Ok(t) => {
+            print_tables(rt, &t)?;
+            mapping_item(rt, input, mapping, &t)
+        }
+        Err(why) => {
+            pass_over(input, mapping);
+            print_refusal(rt, why, Paper::Protocol)
+        }
     }
 }
 
 // Reads the texts of an item, and prints its line.
 fn answer(rt: &impl Print, input: &mut impl Read, item: Item) -> io::Result<()> {
     match item {
-        Item::Protocol(length) => print_reading(rt, protocol_of(input, length))?,
+        Item::Protocol(protocol) => protocol_item(rt, input, protocol)?,
         Item::Judge { protocol, mapping } => judge_item(rt, input, protocol, mapping)?,
     }
     println!(rt;)
