@@ -31,7 +31,8 @@ impl PrintedBytes {
     }
 }
 
-// The answer of a call on texts. Every number is 0 unless the paper says otherwise.
+// The answer of a call on texts as a host gets it, through the C interface: in numbers, so with no enum. Every number is 0 unless the paper says
+// otherwise.
 #[derive(Clone, Copy)]
 pub struct Answer {
     // why and where a paper is refused; its number is 0 on success

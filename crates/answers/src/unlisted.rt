@@ -4,8 +4,7 @@ ghost use Rattle.answers.specs.unlisted.Unlisted.{paper_of, answer_of};
 ghost use Rattle.answers.specs.declared.unlisted.Unlisted.TheVariants.{NoRoom};
 
 use crate::Answer;
-use papers::Refusal;
-use papers::refused::{Reason, Refused};
+use papers::refused::Refused;
 
 // The papers of a judgement, in the order in which they are read. A plan has the first alone.
 #[derive(Clone, Copy, PartialEq, Eq)]

@@ -1,6 +1,5 @@
 pub mod Names
 pub mod Named
-pub mod Mapped
 pub mod Judging
 pub mod InRange
 pub mod Determined

@@ -84,9 +84,6 @@ stored ns i n e h =
     ∙ sym (map-append as_network ns (n ∷ zs)) ∙ ap (map as_network) (sym (append_assoc ns (n ∷ []) zs))
 
 module _ (most : ℕ) (text : List ℕ) (messages : List MessageRow) where
-  pub going-first : Lined text 0 → Going most text messages 0 0 (replicate 64 (as_network 0))
-  going-first h = record { left = h; few = omega arith; room = omega arith; ns = []; long = refl; kept = zeros 64; goal = refl }
-
   module _ (at i : ℕ) (networks : List Network) (g : Going most text messages at i networks) where
     -- no line is left
     pub going_done : length text ≤ at → length messages ≤ i → mapped_of (Ok networks) ≡ read_maps most 2 (lines text) messages []

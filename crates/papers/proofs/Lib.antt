@@ -7,3 +7,4 @@ pub mod WholeLine
 pub mod Recorded
 pub mod Refusals
 pub mod Joined
+pub mod Mapped

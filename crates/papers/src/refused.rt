@@ -1,7 +1,7 @@
 // Why and where a paper is refused, from the line that finds it to the answer.
 ghost use Rattle.std.specs.Prelude.{◌≡◌};
 ghost use Rattle.papers.specs.Checks.{field_refusal};
-ghost use Rattle.papers.specs.refused.Refused.{number_of, told_refusal, refusal_of};
+ghost use Rattle.papers.specs.refused.Refused.{number_of, told_refusal};
 
 use crate::Refusal;
 

@@ -39,7 +39,7 @@ fn is_of(section: Section, line: &Record) -> bool
     }
 }
 
-// ---- one line of each section, stored behind what was read before it
+// ---- one line of each section, stored behind what was read before it. Four functions: the rows differ, and so do the checks of a line.
 
 fn read_message(line: &Record, nth: usize, t: &mut Tables) -> Result<(), Refused>
     requires word { says_of message (split 9 line.now.bytes.now) ≡ true }
@@ -115,6 +115,7 @@ pub(crate) fn read_section(
     ensures { SectionTold (section_lem section) text.now from t.old t.new result }
 {
     let mut here = from;
+    // a `while`: the place of the next line is found by its search, and asked for behind the loop
     while here.at < text.len() {
         let next = lines::next::next_line(text, here.at);
         if !is_of(section, &next.line) {

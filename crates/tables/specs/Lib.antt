@@ -2,5 +2,4 @@ pub mod Tables
 pub mod Cells
 pub mod Clash
 pub mod Relations
-pub mod Given
 pub mod names

@@ -20,9 +20,6 @@ pub record IntoInv (s : List ℕ) (n set r y : ℕ) : Type 0 where
   pub at_most : y ≤ n
   pub bits : (z : ℕ) → Bit r z ↔ ((z < y) × Meets (get_or s z 0) set)
 
-pub into-start : (s : List ℕ) (n set : ℕ) → IntoInv s n set 0 0
-into-start s n set = record { at_most = omega arith; bits = λ z. (λ b. absurd (bit-zero z b), λ t. absurd (omega (arith, t.0))) }
-
 module _ (s : List ℕ) (n set r y : ℕ) (hy : y < n) (inv : IntoInv s n set r y) where
   -- the row of y and the set meet
   pub into-yes : (m v : ℕ) → Meet (get_or s y 0) set m → m ≢ 0 → With r y v → IntoInv s n set v (y + 1)

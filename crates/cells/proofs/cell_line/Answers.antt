@@ -7,7 +7,7 @@ use Rattle.papers.specs.declared.refused.Field.{Field}
 use Rattle.papers.specs.declared.refused.Refused.{Refused}
 use Rattle.papers.specs.refused.Refused.{told_refusal}
 use Rattle.papers.specs.Checks.{field_refusal}
-use Rattle.cells.proofs.Mapped.{err-mapped, ok-mapped}
+use Rattle.papers.proofs.Mapped.{err-mapped, ok-mapped}
 use Rattle.cells.proofs.shapes.Shapes.{wrong-shape, right-shape}
 use Rattle.cells.proofs.Judging.{other_shape, unknown_name, told-judged}
 use Rattle.cells.proofs.cell_line.Goals as goal

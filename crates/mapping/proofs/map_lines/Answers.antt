@@ -9,7 +9,7 @@ use Rattle.mapping.specs.lines.Line.{map_shaped, map_shape}
 use Rattle.mapping.specs.Reading.{mapped_of}
 use Rattle.std.specs.Prelude.{Err}
 use Rattle.std.proofs.lemmas.Result.{err_from_is_err_and, MatchResult-weaker}
-use Rattle.mapping.proofs.Told.{err-mapped, ok-mapped}
+use Rattle.papers.proofs.Mapped.{err-mapped, ok-mapped}
 use Rattle.papers.specs.declared.refused.Field.{Field}
 use Rattle.papers.specs.declared.refused.Refused.{Refused}
 use Rattle.papers.specs.refused.Refused.{told_refusal}

@@ -22,19 +22,6 @@ use Rattle.std.specs.List.{position_or_len}
 use Rattle.std.proofs.lemmas.Option.{none-some, same_Some}
 use Rattle.tables.specs.names.Names.{found}
 
--- what an array of rows is read as past its end
-abbrev pub blank_name : Name
-blank_name = record { bytes = []; length = 0 }
-
-abbrev pub blank_message : MessageRow
-blank_message = record { name = blank_name; kind = Req }
-
-abbrev pub blank_event : EventRow
-blank_event = record { name = blank_name }
-
-abbrev pub blank_state : StateRow
-blank_state = record { name = blank_name; controller = Cache; stability = Stable }
-
 module _ {A : Type 0} (p : A → Bool) (rows : List A) (n : ℕ) (d : A) where
   -- Row i is the first of the first n that passes.
   pub record First (i : ℕ) : Type 0 where

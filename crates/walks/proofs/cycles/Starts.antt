@@ -32,9 +32,6 @@ pub record StartsInv (w s : List ℕ) (n : ℕ) (best : Option Start) (most x : 
   pub best-is : MatchOption best (most ≡ n) (Best w s n most x)
 
 module _ (w s : List ℕ) (n : ℕ) where
-  pub starts-start : StartsInv w s n None n 0
-  starts-start = record { most_small = omega arith; none = λ a h. absurd (omega arith); best-is = refl }
-
   module _ (most x : ℕ) (hx : x < n) where
     -- no shorter walk begins at x
     pub starts-no : (best : Option Start) → StartsInv w s n best most x → Shortest w s n x most None → StartsInv w s n best most (x + 1)

@@ -228,29 +228,6 @@ pub record LastInv (sets : List ℕ) (count m h : ℕ) : Type 0 where
   pub small : h < count
   pub in_it : (j : ℕ) → j ≤ h → Bit (get_or sets j 0) m
 
-module _ (sets : List ℕ) (count m : ℕ) where
-  pub last-start : 1 ≤ count → Bit (get_or sets 0 0) m → LastInv sets count m 0
-  last-start h b = record { small = omega arith; in_it = λ j q. rw (none j q) b }
-    where
-      none : (j : ℕ) → j ≤ 0 → j ≡ 0
-      none j q = omega arith
-
-  module _ (h next : ℕ) (is : next ≡ h + 1) (inv : LastInv sets count m h) where
-    pub last_step : next < count → Bit (get_or sets next 0) m → LastInv sets count m next
-    last_step l e = record { small = l; in_it = λ j q. pick j q (ℕ_discrete j next) }
-      where
-        pick : (j : ℕ) → j ≤ next → Dec (j ≡ next) → Bit (get_or sets j 0) m
-        pick j q (yes f) = rw f e
-        pick j q (no d) = inv.in_it j (omega arith)
-
-    -- it is not in the next set
-    pub last_found : ¬ Bit (get_or sets next 0) m → LastSet sets count m h
-    last_found d = record { small = inv.small; in_it = inv.in_it; not_next = λ _. subst (λ (k : ℕ). ¬ Bit (get_or sets k 0) m) is d }
-
-    -- there is no next set
-    pub last_end : count ≤ next → LastSet sets count m h
-    last_end d = record { small = inv.small; in_it = inv.in_it; not_next = λ l. absurd (omega arith) }
-
 -- ---- the loop of `write`
 
 pub record WriteInv (sets : List ℕ) (count n : ℕ) (old new : List ℕ) (m : ℕ) : Type 0 where
