@@ -24,8 +24,5 @@ pub fn print_judgement(protocol: &[u8], mapping: &[u8]) -> PrintedBytes
 {
     let mut bytes = [0u8; answers::PRINTED];
     let n = put_judgement(protocol, mapping, &mut bytes);
-    PrintedBytes {
-        bytes: bytes,
-        length: n,
-    }
+    PrintedBytes { bytes, length: n }
 }

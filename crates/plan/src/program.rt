@@ -1,4 +1,5 @@
-// What the planning program has to say of a text: the listing, or the line of a refusal.
+// What the planning program has to say of a text: the listing, or the line of a refusal. The judging program has the same two functions over its own
+// call: they share put_refused, and one for both would take the call, the paper and the promise as parameters.
 ghost use Rattle.std.specs.Prelude.{◌≤◌, length, replicate};
 ghost use Rattle.plan.specs.program.Printed.{PlanPrinted};
 
@@ -24,8 +25,5 @@ pub fn print_plan(text: &[u8]) -> PrintedBytes
 {
     let mut bytes = [0u8; answers::PRINTED];
     let n = put_plan(text, &mut bytes);
-    PrintedBytes {
-        bytes: bytes,
-        length: n,
-    }
+    PrintedBytes { bytes, length: n }
 }

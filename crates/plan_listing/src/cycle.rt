@@ -78,7 +78,11 @@ impl NamedCycle<'_> {
 }
 
 // Class 2: the listing of a shown cycle, if there is room for it.
-pub fn cycle_listing(messages: &[MessageRow], cycle: &[Message], out: &mut [u8]) -> Result<usize, NoRoom>
+pub fn cycle_listing(
+    messages: &[MessageRow],
+    cycle: &[Message],
+    out: &mut [u8],
+) -> Result<usize, NoRoom>
     requires { HaveRows messages.now cycle.now }
     ensures { Listed (class_two messages.now (message_numbers cycle.now)) out.old out.new (listed_of result) }
 {
