@@ -1,7 +1,7 @@
 -- What was found out and written is a judgement.
 use Prim.Native.Nat.{ℕ}
-use mathlib.Core.Path.{◌≡◌, refl, ap, sym, ◌∙◌, subst}
-use mathlib.Core.Logic.{◌≢◌, inl, inr, ⊎_elim}
+use mathlib.Core.Path.{◌≡◌, refl, subst}
+use mathlib.Core.Logic.{inl, inr, ⊎_elim}
 use mathlib.Core.List.{List, [], ◌∷◌, ◌++◌}
 use native.Mathlib.Omega.{arith}
 use lib.ListN.{length, take}
@@ -12,10 +12,7 @@ use Rattle.rules.proofs.Promises.{shown-is-real}
 use Rattle.tables.specs.declared.Tables.{Tables}
 use Rattle.tables.specs.Cells.{relations_of_tables}
 use Rattle.answers.specs.declared.Answer.{Answer}
-use Rattle.protocol.specs.whole.Whole.{Reading}
-use Rattle.protocol.specs.Reading.{read_protocol_lem}
-use Rattle.mapping.specs.Mapped.{Mapped}
-use Rattle.answers.specs.Answers.{refused_at_lem, Listed}
+use Rattle.answers.specs.Answers.{Listed}
 use Rattle.plan_listing.proofs.Lines.{have-rows}
 use Rattle.judge_listing.specs.fit.FitText.{fit_text}
 use Rattle.judge_listing.specs.JudgeText.{unfit_text, word_in, steps_from, steps_around}
@@ -24,8 +21,8 @@ use Rattle.judge_listing.proofs.Places.{word-by-bit}
 use Rattle.verdicts.specs.declared.JudgementFound.{JudgementFound}
 use Rattle.std.specs.Prelude.{Option, Some, None, MatchOption}
 use Rattle.verdicts.specs.declared.ShownCycle.{ShownCycle}
-use Rattle.verdicts.specs.Verdicts.{mapping_of_lem, cycle_of, WaitsOf, Unfitting, JudgementIs}
-use Rattle.judge.specs.Call.{Shows, ShowsAll, JudgementWritten, mapped_for, AfterProtocol, JudgeCall}
+use Rattle.verdicts.specs.Verdicts.{cycle_of, WaitsOf, Unfitting, JudgementIs}
+use Rattle.judge.specs.Call.{Shows, ShowsAll, JudgementWritten}
 
 -- ---- the words that the rows of waits tell
 
@@ -79,37 +76,3 @@ module _ (t : Tables) (φ : Mapping) (v : JudgementFound) (is : JudgementIs (rel
     -- what the listing of an unfit mapping asks for
     pub walk-given : length t.messages ≡ 64 → length v.waits ≡ 64 → GivenWalk t.messages (take c.length c.messages) v.waits
     walk-given many told = record { named = have-rows t.messages c.length c.messages many unfitting.stored.few unfitting.stored.messages; told = omega arith }
-
--- ---- the mapping
-
-module _ (t : Tables) (y : List ℕ) (m : Mapped) (is : m ≡ mapped_for t y) where
-  pub after-refused : m.refusal.number ≢ 0 → (old : List ℕ) (r : Answer) → r ≡ refused_at_lem m.refusal 1 → AfterProtocol t y old old r
-  after-refused h old r e =
-      record {
-        mapping_refused = λ n. record { answer = e ∙ ap (λ (z : Mapped). refused_at_lem z.refusal 1) is; bytes = refl };
-        judged = λ z. absurd (h (ap (λ (k : Mapped). k.refusal.number) is ∙ z));
-      }
-
-  pub after-judged : m.refusal.number ≡ 0 → (old new : List ℕ) (r : Answer) → JudgementWritten t (mapping_of_lem m.networks) old new r → AfterProtocol t y old new r
-  after-judged z old new r j =
-      record {
-        mapping_refused = λ n. absurd (n (ap (λ (k : Mapped). k.refusal.number) (sym is) ∙ z));
-        judged = λ _. subst (λ (k : Mapped). JudgementWritten t (mapping_of_lem k.networks) old new r) is j;
-      }
-
--- ---- the call
-
-module _ (x y : List ℕ) (p : Reading) (is : p ≡ read_protocol_lem x) where
-  pub call-refused : p.refusal.number ≢ 0 → (old : List ℕ) (r : Answer) → r ≡ refused_at_lem p.refusal 0 → JudgeCall x y old old r
-  call-refused h old r e =
-      record {
-        protocol_refused = λ n. record { answer = e ∙ ap (λ (z : Reading). refused_at_lem z.refusal 0) is; bytes = refl };
-        protocol_accepted = λ z. absurd (h (ap (λ (k : Reading). k.refusal.number) is ∙ z));
-      }
-
-  pub call-accepted : p.refusal.number ≡ 0 → (old new : List ℕ) (r : Answer) → AfterProtocol p.tables y old new r → JudgeCall x y old new r
-  call-accepted z old new r j =
-      record {
-        protocol_refused = λ n. absurd (n (ap (λ (k : Reading). k.refusal.number) (sym is) ∙ z));
-        protocol_accepted = λ _. subst (λ (k : Reading). AfterProtocol k.tables y old new r) is j;
-      }

@@ -1,1 +1,0 @@
--- `judge::judge_mapping` meets its contract.
