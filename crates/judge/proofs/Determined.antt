@@ -11,18 +11,22 @@ use Rattle.rules.specs.Plan.{Says}
 use Rattle.rules.proofs.Promises.{determined}
 use Rattle.tables.specs.declared.MessageRow.{MessageRow}
 use Rattle.tables.specs.declared.Tables.{Tables}
+use Rattle.tables.specs.Tables.{messages_of_lem}
 use Rattle.tables.specs.Cells.{relations_of_tables}
 use Rattle.protocol.specs.Reading.{read_protocol_lem}
+use Rattle.reading_laws.proofs.bounds.Bounds.{protocol-low, mapping-low}
 use Rattle.answers.specs.declared.Answer.{Answer}
 use lib.ListN.{replicate}
 use Rattle.determined.specs.Determined.{Determines}
 use Rattle.answers.specs.declared.PrintedBytes.{PrintedBytes}
 use Rattle.answers.specs.Answers.{Listed}
+use Rattle.answers.specs.unlisted.Unlisted.{answer_of}
+use Rattle.answers.proofs.Told.{NeedsSome, refused-needs, listed-needs, answer-injective}
 use Rattle.judge_listing.specs.JudgeText.{ShownStep, unfit_text}
 use Rattle.verdicts.specs.Verdicts.{mapping_of_lem}
 use Rattle.answers.proofs.Determined.{refusal-determined, listed-determined}
-use Rattle.judge.specs.Call.{Shows, ShowsAll, UnfitListing, JudgeListing, JudgementWritten, mapped_for, AfterProtocol}
-use Rattle.judge.specs.Determined.{JudgeDetermined}
+use Rattle.judge.specs.Call.{Shows, ShowsAll, UnfitListing, JudgeListing, JudgementWritten, mapped_for, AfterProtocol, JudgeCall}
+use Rattle.judge.specs.Determined.{JudgeDetermined, JudgeResultDetermined}
 use Rattle.text.specs.Written.{Wrote}
 use Rattle.text.proofs.Determined.{wrote-determined}
 use Rattle.judge.specs.program.Printed.{MappingPrinted, JudgePrinted}
@@ -91,6 +95,27 @@ judge-determined x y old new₁ new₂ r s c d = go (eqb (read_protocol_lem x).r
     go false e =
         let n = eqb-false (read_protocol_lem x).refusal.number 0 e in
         refusal-determined (read_protocol_lem x).refusal 0 old new₁ new₂ r s (c.protocol_refused n) (d.protocol_refused n)
+
+-- an answer with 16 tells the length of a listing, for no protocol and no mapping is refused with 16
+after-needs : (t : Tables) (y old new : List ℕ) (r : Answer) → AfterProtocol t y old new r → NeedsSome r
+after-needs t y old new r c = go (eqb (mapped_for t y).refusal.number 0) refl
+  where
+    go : (b : Bool) → eqb (mapped_for t y).refusal.number 0 ≡ b → NeedsSome r
+    go true e = let j = c.judged (eqb-true (mapped_for t y).refusal.number 0 e) in listed-needs j.listing old new r j.listed
+    go false e =
+        refused-needs (mapped_for t y).refusal 1 old new r (mapping-low (messages_of_lem t) y).0 (c.mapping_refused (eqb-false (mapped_for t y).refusal.number 0 e))
+
+judge-needs : (x y old new : List ℕ) (r : Answer) → JudgeCall x y old new r → NeedsSome r
+judge-needs x y old new r c = go (eqb (read_protocol_lem x).refusal.number 0) refl
+  where
+    go : (b : Bool) → eqb (read_protocol_lem x).refusal.number 0 ≡ b → NeedsSome r
+    go true e = after-needs (read_protocol_lem x).tables y old new r (c.protocol_accepted (eqb-true (read_protocol_lem x).refusal.number 0 e))
+    go false e = refused-needs (read_protocol_lem x).refusal 0 old new r (protocol-low x).0 (c.protocol_refused (eqb-false (read_protocol_lem x).refusal.number 0 e))
+
+pub judge-result-determined : JudgeResultDetermined
+judge-result-determined x y old new₁ new₂ r s c d =
+    let q = judge-determined x y old new₁ new₂ (answer_of r) (answer_of s) c d in
+    (answer-injective r s (judge-needs x y old new₁ (answer_of r) c) q.0, q.1)
 
 -- ---- what the program prints
 

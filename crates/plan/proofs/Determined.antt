@@ -17,13 +17,17 @@ use Rattle.tables.specs.declared.Tables.{Tables}
 use Rattle.tables.specs.Tables.{messages_of_lem}
 use Rattle.tables.specs.Cells.{relations_of_tables}
 use Rattle.protocol.specs.Reading.{read_protocol_lem}
+use Rattle.reading_laws.proofs.bounds.Bounds.{protocol-low}
+use Rattle.answers.specs.declared.Answer.{Answer}
 use Rattle.answers.specs.declared.PrintedBytes.{PrintedBytes}
 use Rattle.plan.specs.program.Printed.{PlanPrinted}
 use Rattle.answers.specs.Answers.{Listed}
+use Rattle.answers.specs.unlisted.Unlisted.{answer_of}
+use Rattle.answers.proofs.Told.{NeedsSome, refused-needs, listed-needs, answer-injective}
 use Rattle.answers.proofs.Determined.{refusal-determined, listed-determined}
 use Rattle.plan_listing.specs.PlanText.{class_three, class_two}
-use Rattle.plan.specs.Call.{Three, Two, PlanListing}
-use Rattle.plan.specs.Determined.{PlanDetermined}
+use Rattle.plan.specs.Call.{Three, Two, PlanListing, PlanCall}
+use Rattle.plan.specs.Determined.{PlanDetermined, PlanResultDetermined}
 use Rattle.text.specs.Written.{Wrote}
 use Rattle.text.proofs.Determined.{wrote-determined}
 use Rattle.plan.specs.program.Determined.{PlanPrintedDetermined}
@@ -60,6 +64,20 @@ plan-determined text old new₁ new₂ r s c d = go (eqb (read_protocol_lem text
     go false e =
         let n = eqb-false (read_protocol_lem text).refusal.number 0 e in
         refusal-determined (read_protocol_lem text).refusal 0 old new₁ new₂ r s (c.refused n) (d.refused n)
+
+-- an answer with 16 tells the length of a listing, for no protocol is refused with 16
+plan-needs : (text old new : List ℕ) (r : Answer) → PlanCall text old new r → NeedsSome r
+plan-needs text old new r c = go (eqb (read_protocol_lem text).refusal.number 0) refl
+  where
+    go : (b : Bool) → eqb (read_protocol_lem text).refusal.number 0 ≡ b → NeedsSome r
+    go true e = let p = c.planned (eqb-true (read_protocol_lem text).refusal.number 0 e) in listed-needs p.listing old new r p.listed
+    go false e =
+        refused-needs (read_protocol_lem text).refusal 0 old new r (protocol-low text).0 (c.refused (eqb-false (read_protocol_lem text).refusal.number 0 e))
+
+pub plan-result-determined : PlanResultDetermined
+plan-result-determined text old new₁ new₂ r s c d =
+    let q = plan-determined text old new₁ new₂ (answer_of r) (answer_of s) c d in
+    (answer-injective r s (plan-needs text old new₁ (answer_of r) c) q.0, q.1)
 
 -- ---- what the program prints
 
