@@ -5,8 +5,10 @@ pub mod refused_text;
 pub mod unlisted;
 
 ghost use Rattle.std.specs.Prelude.{◌≡◌, ◌≤◌, take};
+ghost use Rattle.answers.specs.unlisted.Unlisted.{answer_of};
 ghost use Rattle.answers.specs.Answers.{refused_at_lem, no_room_lem, finished, Small, shown_length_lem, packed_answer};
 
+use crate::unlisted::Unlisted;
 use papers::Refusal;
 use papers::refused::Reason;
 
@@ -86,6 +88,19 @@ fn listed(length: usize) -> Answer
         paper: 0,
         length: length,
         needed: 0,
+    }
+}
+
+impl Answer {
+    // The same in numbers, as a host gets it.
+    pub fn of(told: Result<usize, Unlisted>) -> Answer
+        ensures { result ≡ answer_of told }
+    {
+        match told {
+            Ok(length) => listed(length),
+            Err(Unlisted::Refused(why, paper)) => refused(why.refusal(), paper.number()),
+            Err(Unlisted::NoRoom(r)) => no_room(r.needed),
+        }
     }
 }
 

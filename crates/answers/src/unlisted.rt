@@ -1,9 +1,8 @@
 // What a call on texts tells the library that makes it: how long the listing is, or why there is none.
 ghost use Rattle.std.specs.Prelude.{◌≡◌};
-ghost use Rattle.answers.specs.unlisted.Unlisted.{paper_of, answer_of};
+ghost use Rattle.answers.specs.unlisted.Unlisted.{paper_of};
 ghost use Rattle.answers.specs.declared.unlisted.Unlisted.TheVariants.{NoRoom};
 
-use crate::Answer;
 use papers::refused::Refused;
 
 // The papers of a judgement, in the order in which they are read. A plan has the first alone.
@@ -43,18 +42,5 @@ impl From<NoRoom> for Unlisted {
 
     fn from(r: NoRoom) -> Unlisted {
         Unlisted::NoRoom(r)
-    }
-}
-
-impl Answer {
-    // The same in numbers, as a host gets it.
-    pub fn of(told: Result<usize, Unlisted>) -> Answer
-        ensures { result ≡ answer_of told }
-    {
-        match told {
-            Ok(length) => crate::listed(length),
-            Err(Unlisted::Refused(why, paper)) => crate::refused(why.refusal(), paper.number()),
-            Err(Unlisted::NoRoom(r)) => crate::no_room(r.needed),
-        }
     }
 }

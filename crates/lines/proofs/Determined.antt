@@ -23,8 +23,7 @@ use Rattle.lines.specs.shapes.Shapes.{message_shape_lem, event_shape_lem, state_
 use Rattle.lines.specs.misplaced.Place.{Misplaced}
 use lib.ListN.{length}
 use Rattle.text.specs.Fields.{fields_of}
-use Rattle.lines.specs.declared.next.NextLine.{NextLine}
-use Rattle.lines.specs.next.Next.{Next}
+use Rattle.lines.specs.next.Next.{NextDetermined}
 
 module _ (line : List ℕ) (i : ℕ) where
   pub controller-at-determined : Determines (λ (r : Option Controller). r ≡ found_controller (field (split 9 line) i))
@@ -41,8 +40,7 @@ module _ (line : List ℕ) where
   state-shape-determined = equal _
 
 -- the end of the next line, and the bytes of the line, whose fields follow from them
-pub next-line-determined : (text : List ℕ) (at : ℕ) (r s : NextLine) → Next text at r → Next text at s
-    → (r.end ≡ s.end) × (r.line.bytes.now ≡ s.line.bytes.now) × (r.line.fields ≡ s.line.fields)
+pub next-line-determined : NextDetermined
 next-line-determined text at r s p q =
     let e : r.end ≡ s.end = p.ends ∙ sym q.ends in
     let b : r.line.bytes.now ≡ s.line.bytes.now = p.line ∙ ap (part text at) e ∙ sym q.line in

@@ -68,10 +68,6 @@ pub record Going (most : ℕ) (text : List ℕ) (messages : List MessageRow) (at
   pub kept : networks ≡ map as_network (ns ++ replicate (64 - i) 0)
   pub goal : read_maps most (i + 2) (lines (drop at text)) (drop i messages) ns ≡ read_maps most 2 (lines text) messages []
 
-zeros : (n : ℕ) → replicate n (as_network 0) ≡ map as_network (replicate n 0)
-zeros zero = refl
-zeros (suc n) = ap (λ (l : List Network). as_network 0 ∷ l) (zeros n)
-
 -- one network is stored behind those that are there
 stored : (ns : List ℕ) (i n : ℕ) → length ns ≡ i → i < 64
     → set (map as_network (ns ++ replicate (64 - i) 0)) i (as_network n) ≡ map as_network ((ns ++ (n ∷ [])) ++ replicate (64 - (i + 1)) 0)

@@ -4,7 +4,7 @@ ghost use Rattle.text.specs.Parts.{split};
 ghost use Rattle.lines.specs.Line.{message, event, state, cell, says_of};
 ghost use Rattle.lines.specs.Checks.{later_read};
 ghost use Rattle.protocol.specs.whole.Kept.{Kept};
-ghost use Rattle.protocol.specs.sections.Sections.{section_lem, Placed, Stage, AllRead};
+ghost use Rattle.protocol.specs.sections.Sections.{section_lem, Placed, Stage, SectionsDone};
 ghost use Rattle.protocol.specs.sections.Told.{LineStored, SectionTold, EndTold};
 
 use papers::records::Record;
@@ -132,7 +132,7 @@ pub(crate) fn read_section(
 
 // Behind the last section no line is left: one that is there is too late for its section, or of none.
 pub(crate) fn ended(text: &[u8], rest: LineStart, t: &Tables) -> Result<(), Refused>
-    requires { Placed text.now rest.at rest.line × AllRead text.now rest.at t.now }
+    requires { Placed text.now rest.at rest.line × SectionsDone text.now rest.at t.now }
     ensures { EndTold text.now rest t.now result }
 {
     if rest.at < text.len() {

@@ -8,7 +8,7 @@ use native.Mathlib.Omega.{arith}
 use lib.ListN.{get_or}
 use Rattle.rows.specs.Rows.{Bit}
 use Rattle.rows.specs.Row.{With, Meet}
-use Rattle.rows.proofs.Bits.{bit-zero, meet-some, meet-none}
+use Rattle.rows.proofs.Bits.{meet-some, meet-none}
 use Rattle.walks.specs.Sets.{Into}
 
 abbrev pub Meets : ℕ → ℕ → Type 0

@@ -21,7 +21,7 @@ use Rattle.lines.proofs.Sections.{a-cell, not_in}
 use Rattle.protocol.specs.declared.sections.Section.{Section as CodeSection}
 use Rattle.protocol.specs.whole.Whole.{refused}
 use Rattle.protocol.specs.sections.Lines.{read_lines}
-use Rattle.protocol.specs.sections.Sections.{Placed, AllRead, line_at, section_at, section_lem}
+use Rattle.protocol.specs.sections.Sections.{Placed, SectionsDone, line_at, section_at, section_lem}
 use Rattle.protocol.proofs.sections.Steps.{step-bad}
 use Rattle.protocol.proofs.sections.Leaving.{Leaves}
 
@@ -48,7 +48,7 @@ not-of c text at n h = not_in (section_lem c) (split 9 (line_at text at)) n
 
 -- ---- a line behind the last section
 
-module _ (text : List ℕ) (at line : ℕ) (t : Tables) (p : Placed text at line) (all : AllRead text at t) (h : at < length text) where
+module _ (text : List ℕ) (at line : ℕ) (t : Tables) (p : Placed text at line) (all : SectionsDone text at t) (h : at < length text) where
   no-cell : section_at text at ≡ cell → ⊥
   no-cell e = let z : false ≡ true = all.3 h e in not-true z
     where

@@ -34,15 +34,15 @@ Stage cell text at t = TooLate message text at t × TooLate event text at t × T
 Stage unknown text at t = length text ≤ at
 
 -- The four sections were read, and no line of them follows that is not too late.
-abbrev pub AllRead : List ℕ → ℕ → Tables → Type 0
-AllRead text at t = TooLate message text at t × TooLate event text at t × TooLate state text at t × TooLate cell text at t
+abbrev pub SectionsDone : List ℕ → ℕ → Tables → Type 0
+SectionsDone text at t = TooLate message text at t × TooLate event text at t × TooLate state text at t × TooLate cell text at t
 
 -- A section was read to its end: the next one begins.
 abbrev pub StageAfter : Section → List ℕ → ℕ → Tables → Type 0
 StageAfter message text at t = Stage event text at t
 StageAfter event text at t = Stage state text at t
 StageAfter state text at t = Stage cell text at t
-StageAfter cell text at t = AllRead text at t
+StageAfter cell text at t = SectionsDone text at t
 StageAfter unknown text at t = Stage unknown text at t
 
 -- ---- the code's sections

@@ -8,13 +8,6 @@ use lib.ListN.{length, take, get_or, length-take}
 use lib.Seq.{get_or-take}
 use lib.Dec.{ltb}
 use borrow.Author.Tests.{lt-ltb, le-ltb, ltb-true, ltb-false}
-use Rattle.text.specs.declared.Name.{Name}
-use Rattle.tables.specs.declared.Kind.TheVariants.{Req}
-use Rattle.tables.specs.declared.Controller.TheVariants.{Cache}
-use Rattle.tables.specs.declared.Stability.TheVariants.{Stable}
-use Rattle.tables.specs.declared.MessageRow.{MessageRow}
-use Rattle.tables.specs.declared.EventRow.{EventRow}
-use Rattle.tables.specs.declared.StateRow.{StateRow}
 use Rattle.text.specs.Parts.{first_index}
 use Rattle.text.proofs.Parts.{first-before, first_passes}
 use Rattle.std.specs.Prelude.{Option, Some, None, ◌∷◌}
