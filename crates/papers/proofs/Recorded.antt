@@ -8,7 +8,7 @@ use lib.ListN.{length, get_or}
 use Rattle.papers.proofs.WholeLine.{whole_fields}
 use Rattle.text.specs.declared.Fields.{Fields}
 use Rattle.text.specs.Parts.{split}
-use Rattle.text.specs.Fields.{fields_of, line_fields_lem}
+use Rattle.text.specs.Fields.{no_span, fields_of, line_fields_lem}
 use Rattle.text.proofs.FieldLaws.{FieldAt, field_at, count-few, count-full, count-le, count-some}
 use Rattle.text.specs.Line.{field}
 use Rattle.papers.specs.records.FieldsAre.{FieldsAre}
@@ -33,8 +33,8 @@ module _ (line : List ℕ) (f : Fields) (are : FieldsAre line f) where
       subst (λ (ps : List (List ℕ)). 15 ≤ length ps) (whole_fields line) (count-full line 0 (length line) (e ∙ h))
 
   module _ (i : ℕ) (below : i < f.count) where
-    pub at_field : FieldAt line 0 (length line) (get_or f.from i 0) (get_or f.to i 0) (field (split 9 line) i)
+    pub at_field : FieldAt line 0 (length line) (get_or f.spans i no_span) (field (split 9 line) i)
     at_field =
-        subst (λ (ps : List (List ℕ)). FieldAt line 0 (length line) (get_or f.from i 0) (get_or f.to i 0) (get_or ps i [])) (whole_fields line)
-        (subst (λ (g : Fields). FieldAt line 0 (length line) (get_or g.from i 0) (get_or g.to i 0) (get_or (line_fields_lem line 0 (length line)) i [])) (sym are)
+        subst (λ (ps : List (List ℕ)). FieldAt line 0 (length line) (get_or f.spans i no_span) (get_or ps i [])) (whole_fields line)
+        (subst (λ (g : Fields). FieldAt line 0 (length line) (get_or g.spans i no_span) (get_or (line_fields_lem line 0 (length line)) i [])) (sym are)
         (field_at line 0 (length line) i (omega arith) (le_refl (length line)) (subst (λ (g : Fields). i < g.count) are below)))

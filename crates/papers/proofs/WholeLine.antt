@@ -9,7 +9,7 @@ use lib.ListN.{length, get_or}
 use lib.Seq.{take_all}
 use Rattle.text.specs.declared.Fields.{Fields}
 use Rattle.text.specs.Parts.{split}
-use Rattle.text.specs.Fields.{line_fields_lem, fields_of}
+use Rattle.text.specs.Fields.{no_span, line_fields_lem, fields_of}
 use Rattle.text.proofs.FieldLaws.{FieldAt, field_at, count-few, count-full, count-le}
 
 module _ (l : List ℕ) where
@@ -27,13 +27,13 @@ module _ (l : List ℕ) where
 
   -- where the field at i stands
   pub whole-field : (i : ℕ) → i < (fields_of l 0 (length l)).count
-      → FieldAt l 0 (length l) (get_or (fields_of l 0 (length l)).from i 0) (get_or (fields_of l 0 (length l)).to i 0) (get_or (split 9 l) i [])
+      → FieldAt l 0 (length l) (get_or (fields_of l 0 (length l)).spans i no_span) (get_or (split 9 l) i [])
   whole-field i h =
-      subst (λ (ps : List (List ℕ)). FieldAt l 0 (length l) (get_or (fields_of l 0 (length l)).from i 0) (get_or (fields_of l 0 (length l)).to i 0) (get_or ps i []))
+      subst (λ (ps : List (List ℕ)). FieldAt l 0 (length l) (get_or (fields_of l 0 (length l)).spans i no_span) (get_or ps i []))
       whole_fields (field_at l 0 (length l) i (omega arith) (omega arith) h)
 
   -- the same of the fields as a call told them
   pub told-field : (r : Fields) (i : ℕ) → r ≡ fields_of l 0 (length l) → i < r.count
-      → FieldAt l 0 (length l) (get_or r.from i 0) (get_or r.to i 0) (get_or (split 9 l) i [])
+      → FieldAt l 0 (length l) (get_or r.spans i no_span) (get_or (split 9 l) i [])
   told-field r i e h =
-      subst (λ (s : Fields). i < s.count → FieldAt l 0 (length l) (get_or s.from i 0) (get_or s.to i 0) (get_or (split 9 l) i [])) (sym e) (whole-field i) h
+      subst (λ (s : Fields). i < s.count → FieldAt l 0 (length l) (get_or s.spans i no_span) (get_or (split 9 l) i [])) (sym e) (whole-field i) h

@@ -37,9 +37,8 @@ impl<'a> Record<'a> {
         requires { i < self.now.fields.count }
         ensures { result.now ≡ field (split 9 self.now.bytes.now) i }
     {
-        let a = self.fields.from[i];
-        let e = self.fields.to[i];
-        &self.bytes[a..e]
+        let span = self.fields.spans[i];
+        &self.bytes[span.from..span.to]
     }
 
     // Whether field i is this word.

@@ -8,12 +8,13 @@ use native.Mathlib.Nat.{eq-or-lt_of_le}
 use lib.ListN.{length, take, get_or, set, replicate, length-append, length-take, get_or-append}
 use lib.Seq.{set_at, take_at, take_all, get_or-take}
 use Rattle.text.specs.declared.Fields.{Fields}
+use Rattle.text.specs.declared.Span.{Span}
 use Rattle.text.specs.Parts.{part, place}
-use Rattle.text.specs.Fields.{marks, start, end, padded, line_fields_lem, fields_of}
+use Rattle.text.specs.Fields.{marks, span, no_span, padded, line_fields_lem, fields_of}
 use Rattle.text.proofs.Parts.{length_part, place-from, place-to}
 use Rattle.text.proofs.Lines.{after, after_none, after-some, split-many, split-part}
 
-module _ (f : ℕ → ℕ → ℕ) where
+module _ {A : Type 0} (f : ℕ → ℕ → A) where
   pub length-marks : (a : ℕ) (ps : List (List ℕ)) → length (marks f a ps) ≡ length ps
   unfolding marks
   length-marks a [] = refl
@@ -24,146 +25,125 @@ module _ (f : ℕ → ℕ → ℕ) where
   marks-take zero a [] = refl
   marks-take zero a (p ∷ ps) = refl
   marks-take (suc k) a [] = refl
-  marks-take (suc k) a (p ∷ ps) = ap (λ (l : List ℕ). f a (length p) ∷ l) (marks-take k (a + length p + 1) ps)
+  marks-take (suc k) a (p ∷ ps) = ap (λ (l : List A). f a (length p) ∷ l) (marks-take k (a + length p + 1) ps)
 
-  -- Of the marks of `all`, n are written, and zeros stand behind them; those of `rest`, which starts at `at`, are to come.
-  pub record Filling (a : ℕ) (all : List (List ℕ)) (n at : ℕ) (rest : List (List ℕ)) (xs : List ℕ) : Type 0 where
-    pub done : List ℕ
-    pub long : length done ≡ n
-    pub now : xs ≡ done ++ replicate (15 - n) 0
-    pub goal : done ++ marks f at rest ≡ marks f a all
+-- Of the spans of `all`, which starts at `a`, n are written, and spans of no field stand behind them; those of `rest`, which starts at `at`, are to come.
+pub record Filling (a : ℕ) (all : List (List ℕ)) (n at : ℕ) (rest : List (List ℕ)) (xs : List Span) : Type 0 where
+  pub done : List Span
+  pub long : length done ≡ n
+  pub now : xs ≡ done ++ replicate (15 - n) no_span
+  pub goal : done ++ marks span at rest ≡ marks span a all
 
-  pub fill_none : (a : ℕ) (all : List (List ℕ)) → Filling a all 0 a all (replicate 15 0)
-  fill_none a all = record { done = []; long = refl; now = refl; goal = refl }
+module _ (a : ℕ) (all : List (List ℕ)) where
+  pub fill_none : Filling a all 0 a all (replicate 15 no_span)
+  fill_none = record { done = []; long = refl; now = refl; goal = refl }
 
-  -- one mark more
-  pub fill_more : (a : ℕ) (all : List (List ℕ)) (n at : ℕ) (p : List ℕ) (ps : List (List ℕ)) (xs : List ℕ) → Filling a all n at (p ∷ ps) xs → n < 15
-      → Filling a all (n + 1) (at + length p + 1) ps (set xs n (f at (length p)))
+  -- one span more
+  pub fill_more : (n at : ℕ) (p : List ℕ) (ps : List (List ℕ)) (xs : List Span) → Filling a all n at (p ∷ ps) xs → n < 15
+      → Filling a all (n + 1) (at + length p + 1) ps (set xs n (span at (length p)))
   unfolding marks
-  fill_more a all n at p ps xs g h =
-      let x = f at (length p) in
+  fill_more n at p ps xs g h =
+      let x = span at (length p) in
       let d = g.done in
       let q : 15 - n ≡ suc (15 - (n + 1)) = omega arith in
       record {
         done = d ++ (x ∷ []);
         long = length-append d (x ∷ []) ∙ ap (λ (k : ℕ). k + 1) g.long;
         now =
-            ap (λ (l : List ℕ). set l n x) (g.now ∙ ap (λ (k : ℕ). d ++ replicate k 0) q)
-            ∙ set_at d 0 (replicate (15 - (n + 1)) 0) x n g.long ∙ sym (append_assoc d (x ∷ []) (replicate (15 - (n + 1)) 0));
-        goal = append_assoc d (x ∷ []) (marks f (at + length p + 1) ps) ∙ g.goal;
+            ap (λ (l : List Span). set l n x) (g.now ∙ ap (λ (k : ℕ). d ++ replicate k no_span) q)
+            ∙ set_at d no_span (replicate (15 - (n + 1)) no_span) x n g.long ∙ sym (append_assoc d (x ∷ []) (replicate (15 - (n + 1)) no_span));
+        goal = append_assoc d (x ∷ []) (marks span (at + length p + 1) ps) ∙ g.goal;
       }
 
   -- all that fit are written
-  pub fill-all : (a : ℕ) (all : List (List ℕ)) (n at : ℕ) (rest : List (List ℕ)) (xs : List ℕ) (g : Filling a all n at rest xs) → n ≤ 15
-      → (rest ≡ []) ⊎ (n ≡ 15) → marks f a (take 15 all) ≡ g.done
-  unfolding marks
-  fill-all a all n at rest xs g h e =
-      marks-take 15 a all ∙ ap (take 15) (sym g.goal)
-      ∙ ⊎_elim
-      (λ (q : rest ≡ []). ap (λ (ps : List (List ℕ)). take 15 (g.done ++ marks f at ps)) q ∙ ap (take 15) (append-nil g.done) ∙ take_all 15 g.done (omega (arith, g.long)))
-      (λ (q : n ≡ 15). take_at g.done (marks f at rest) 15 (g.long ∙ q)) e
+  module _ (n at : ℕ) (rest : List (List ℕ)) (xs : List Span) (g : Filling a all n at rest xs) (h : n ≤ 15) (e : (rest ≡ []) ⊎ (n ≡ 15)) where
+    pub fill-all : marks span a (take 15 all) ≡ g.done
+    unfolding marks
+    fill-all =
+        marks-take span 15 a all ∙ ap (take 15) (sym g.goal)
+        ∙ ⊎_elim
+        (λ (q : rest ≡ []). ap (λ (ps : List (List ℕ)). take 15 (g.done ++ marks span at ps)) q ∙ ap (take 15) (append-nil g.done) ∙ take_all 15 g.done (omega (arith, g.long)))
+        (λ (q : n ≡ 15). take_at g.done (marks span at rest) 15 (g.long ∙ q)) e
 
-  pub fill-count : (a : ℕ) (all : List (List ℕ)) (n at : ℕ) (rest : List (List ℕ)) (xs : List ℕ) → Filling a all n at rest xs → n ≤ 15
-      → (rest ≡ []) ⊎ (n ≡ 15) → n ≡ length (take 15 all)
-  fill-count a all n at rest xs g h e =
-      sym g.long ∙ ap length (sym (fill-all a all n at rest xs g h e)) ∙ length-marks a (take 15 all)
+    pub fill-count : n ≡ length (take 15 all)
+    fill-count = sym g.long ∙ ap length (sym fill-all) ∙ length-marks span a (take 15 all)
 
-  pub fill-places : (a : ℕ) (all : List (List ℕ)) (n at : ℕ) (rest : List (List ℕ)) (xs : List ℕ) → Filling a all n at rest xs → n ≤ 15
-      → (rest ≡ []) ⊎ (n ≡ 15) → xs ≡ padded (marks f a (take 15 all))
-  fill-places a all n at rest xs g h e =
-      g.now ∙ ap (λ (k : ℕ). g.done ++ replicate (15 - k) 0) (sym g.long) ∙ ap padded (sym (fill-all a all n at rest xs g h e))
+    pub fill-places : xs ≡ padded (marks span a (take 15 all))
+    fill-places = g.now ∙ ap (λ (k : ℕ). g.done ++ replicate (15 - k) no_span) (sym g.long) ∙ ap padded (sym fill-all)
 
 -- ---- the loop
 
--- The places of the first n fields are written, the last of which ends at e.
-pub record Filled (text : List ℕ) (a t n e : ℕ) (xs ys : List ℕ) : Type 0 where
+-- The spans of the first n fields are written, the last of which ends at e.
+pub record Filled (text : List ℕ) (a t n e : ℕ) (xs : List Span) : Type 0 where
   pub few : n ≤ 15
   pub some : 1 ≤ n
   pub from : a ≤ e
   pub to : e ≤ t
-  pub starts : Filling start a (line_fields_lem text a t) n (e + 1) (after 9 text e t) xs
-  pub ends : Filling end a (line_fields_lem text a t) n (e + 1) (after 9 text e t) ys
+  pub spans : Filling a (line_fields_lem text a t) n (e + 1) (after 9 text e t) xs
 
 module _ (text : List ℕ) (a t : ℕ) where
   -- the next field starts at s
-  step : (f : ℕ → ℕ → ℕ) (n s : ℕ) (rest : List (List ℕ)) (xs : List ℕ) → s ≤ t → t ≤ length text → n < 15
-      → rest ≡ line_fields_lem text s t → Filling f a (line_fields_lem text a t) n s rest xs
-      → Filling f a (line_fields_lem text a t) (n + 1) (place 9 text s t + 1) (after 9 text (place 9 text s t) t) (set xs n (f s (place 9 text s t - s)))
-  step f n s rest xs h k m q g =
+  step : (n s : ℕ) (rest : List (List ℕ)) (xs : List Span) → s ≤ t → t ≤ length text → n < 15
+      → rest ≡ line_fields_lem text s t → Filling a (line_fields_lem text a t) n s rest xs
+      → Filling a (line_fields_lem text a t) (n + 1) (place 9 text s t + 1) (after 9 text (place 9 text s t) t) (set xs n (record { from = s; to = place 9 text s t }))
+  step n s rest xs h k m q g =
       let e = place 9 text s t in
       let from = place-from 9 text s t h k in
       let to = place-to 9 text s t h k in
-      let long : length (part text s e) ≡ e - s = length_part text s e (omega arith) in
-      let past : s + (e - s) + 1 ≡ e + 1 = omega arith in
-      let more = fill_more f a (line_fields_lem text a t) n s (part text s e) (after 9 text e t) xs
-      (subst (λ (ps : List (List ℕ)). Filling f a (line_fields_lem text a t) n s ps xs) (q ∙ split-part 9 text s t h k) g) m in
-      subst (λ (j : ℕ). Filling f a (line_fields_lem text a t) (n + 1) j (after 9 text e t) (set xs n (f s (e - s)))) past
-      (subst (λ (j : ℕ). Filling f a (line_fields_lem text a t) (n + 1) (s + j + 1) (after 9 text e t) (set xs n (f s j))) long more)
+      let long : s + length (part text s e) ≡ e = omega (arith, length_part text s e (omega arith)) in
+      let more = fill_more a (line_fields_lem text a t) n s (part text s e) (after 9 text e t) xs
+      (subst (λ (ps : List (List ℕ)). Filling a (line_fields_lem text a t) n s ps xs) (q ∙ split-part 9 text s t h k) g) m in
+      subst (λ (j : ℕ). Filling a (line_fields_lem text a t) (n + 1) (j + 1) (after 9 text e t) (set xs n (record { from = s; to = j }))) long more
 
   module _ (h : a ≤ t) (k : t ≤ length text) where
-    pub filled-first : Filled text a t 1 (place 9 text a t) (set (replicate 15 0) 0 a) (set (replicate 15 0) 0 (place 9 text a t))
+    pub filled-first : Filled text a t 1 (place 9 text a t) (set (replicate 15 no_span) 0 (record { from = a; to = place 9 text a t }))
     filled-first =
-        let e = place 9 text a t in
-        let from = place-from 9 text a t h k in
-        let to = place-to 9 text a t h k in
-        let back : a + (e - a) ≡ e = omega arith in
         record {
           few = omega arith;
           some = omega arith;
-          from = from;
-          to = to;
-          starts = step start 0 a (line_fields_lem text a t) (replicate 15 0) h k (omega arith) refl (fill_none start a (line_fields_lem text a t));
-          ends =
-              subst (λ (v : ℕ). Filling end a (line_fields_lem text a t) 1 (e + 1) (after 9 text e t) (set (replicate 15 0) 0 v)) back
-              (step end 0 a (line_fields_lem text a t) (replicate 15 0) h k (omega arith) refl (fill_none end a (line_fields_lem text a t)));
+          from = place-from 9 text a t h k;
+          to = place-to 9 text a t h k;
+          spans = step 0 a (line_fields_lem text a t) (replicate 15 no_span) h k (omega arith) refl (fill_none a (line_fields_lem text a t));
         }
 
-    pub filled_more : (n e : ℕ) (xs ys : List ℕ) → Filled text a t n e xs ys → n < 15 → e < t
-        → Filled text a t (n + 1) (place 9 text (e + 1) t) (set xs n (e + 1)) (set ys n (place 9 text (e + 1) t))
-    filled_more n e xs ys g m l =
+    pub filled_more : (n e : ℕ) (xs : List Span) → Filled text a t n e xs → n < 15 → e < t
+        → Filled text a t (n + 1) (place 9 text (e + 1) t) (set xs n (record { from = e + 1; to = place 9 text (e + 1) t }))
+    filled_more n e xs g m l =
         let s = e + 1 in
-        let o = place 9 text s t in
         let from = place-from 9 text s t (omega arith) k in
-        let to = place-to 9 text s t (omega arith) k in
-        let back : s + (o - s) ≡ o = omega arith in
         record {
           few = omega arith;
           some = omega arith;
           from = omega (arith, g.from);
-          to = to;
-          starts = step start n s (after 9 text e t) xs (omega arith) k m (after-some 9 text e t l) g.starts;
-          ends =
-              subst (λ (v : ℕ). Filling end a (line_fields_lem text a t) (n + 1) (o + 1) (after 9 text o t) (set ys n v)) back
-              (step end n s (after 9 text e t) ys (omega arith) k m (after-some 9 text e t l) g.ends);
+          to = place-to 9 text s t (omega arith) k;
+          spans = step n s (after 9 text e t) xs (omega arith) k m (after-some 9 text e t l) g.spans;
         }
 
   -- there are no more, or there is no room for more
-  pub filled-all : (n e : ℕ) (xs ys : List ℕ) → Filled text a t n e xs ys → (t ≤ e) ⊎ (n ≡ 15)
-      → record { count = n; from = xs; to = ys } ≡ fields_of text a t
+  pub filled-all : (n e : ℕ) (xs : List Span) → Filled text a t n e xs → (t ≤ e) ⊎ (n ≡ 15) → record { count = n; spans = xs } ≡ fields_of text a t
   unfolding fields_of
-  filled-all n e xs ys g o =
+  filled-all n e xs g o =
       let rest = after 9 text e t in
-      let end' : (rest ≡ []) ⊎ (n ≡ 15) = ⊎_elim (λ (q : t ≤ e). inl (after_none 9 text e t q)) (λ (q : n ≡ 15). inr q) o in
-      same (fill-count start a (line_fields_lem text a t) n (e + 1) rest xs g.starts g.few end')
-      (fill-places start a (line_fields_lem text a t) n (e + 1) rest xs g.starts g.few end')
-      (fill-places end a (line_fields_lem text a t) n (e + 1) rest ys g.ends g.few end')
+      let end : (rest ≡ []) ⊎ (n ≡ 15) = ⊎_elim (λ (q : t ≤ e). inl (after_none 9 text e t q)) (λ (q : n ≡ 15). inr q) o in
+      same (fill-count a (line_fields_lem text a t) n (e + 1) rest xs g.spans g.few end)
+      (fill-places a (line_fields_lem text a t) n (e + 1) rest xs g.spans g.few end)
     where
-      same : {m m' : ℕ} {l l' r r' : List ℕ} → m ≡ m' → l ≡ l' → r ≡ r'
-          → ◌≡◌ {A = Fields} (record { count = m; from = l; to = r }) (record { count = m'; from = l'; to = r' })
-      same p q s = cc
+      same : {m m' : ℕ} {l l' : List Span} → m ≡ m' → l ≡ l'
+          → ◌≡◌ {A = Fields} (record { count = m; spans = l }) (record { count = m'; spans = l' })
+      same p q = cc
 
 -- ---- what a reader knows
 
--- A field, which is p, stands in the line from a to t at the places s to e.
-pub record FieldAt (text : List ℕ) (a t s e : ℕ) (p : List ℕ) : Type 0 where
-  pub from : a ≤ s
-  pub order : s ≤ e
-  pub to : e ≤ t
-  pub bytes : part text s e ≡ p
+-- A field, which is p, stands in the line from a to t at this span.
+pub record FieldAt (text : List ℕ) (a t : ℕ) (s : Span) (p : List ℕ) : Type 0 where
+  pub from : a ≤ s.from
+  pub order : s.from ≤ s.to
+  pub to : s.to ≤ t
+  pub bytes : part text s.from s.to ≡ p
 
 module _ (text : List ℕ) where
   at_mark : (i a t : ℕ) → a ≤ t → t ≤ length text → i < length (line_fields_lem text a t)
-      → FieldAt text a t (get_or (marks start a (line_fields_lem text a t)) i 0) (get_or (marks end a (line_fields_lem text a t)) i 0) (get_or (line_fields_lem text a t) i [])
+      → FieldAt text a t (get_or (marks span a (line_fields_lem text a t)) i no_span) (get_or (line_fields_lem text a t) i [])
   unfolding marks
   at_mark zero a t h k m =
       let e = place 9 text a t in
@@ -203,17 +183,13 @@ module _ (text : List ℕ) where
     unfolding fields_of
     count-some = omega (arith, length-take 15 (line_fields_lem text a t), split-many 9 (part text a t))
 
-    kept : (f : ℕ → ℕ → ℕ) (i : ℕ) → i < length (take 15 (line_fields_lem text a t))
-        → get_or (padded (marks f a (take 15 (line_fields_lem text a t)))) i 0 ≡ get_or (marks f a (line_fields_lem text a t)) i 0
-    kept f i h =
-        let ps = line_fields_lem text a t in
-        let xs = marks f a (take 15 ps) in
-        get_or-append xs (replicate (15 - length xs) 0) 0 i (omega (arith, length-marks f a (take 15 ps)))
-        ∙ ap (λ (l : List ℕ). get_or l i 0) (marks-take f 15 a ps) ∙ get_or-take 15 (marks f a ps) i 0 (omega (arith, length-take 15 ps))
-
     -- the field at i
     pub field_at : (i : ℕ) → a ≤ t → t ≤ length text → i < (fields_of text a t).count
-        → FieldAt text a t (get_or (fields_of text a t).from i 0) (get_or (fields_of text a t).to i 0) (get_or (line_fields_lem text a t) i [])
+        → FieldAt text a t (get_or (fields_of text a t).spans i no_span) (get_or (line_fields_lem text a t) i [])
     unfolding fields_of
     field_at i h k m =
-        rw (kept start i m, kept end i m) (at_mark i a t h k (omega (arith, length-take 15 (line_fields_lem text a t))))
+        let ps = line_fields_lem text a t in
+        let xs = marks span a (take 15 ps) in
+        let e = get_or-append xs (replicate (15 - length xs) no_span) no_span i (omega (arith, length-marks span a (take 15 ps)))
+        ∙ ap (λ (l : List Span). get_or l i no_span) (marks-take span 15 a ps) ∙ get_or-take 15 (marks span a ps) i no_span (omega (arith, length-take 15 ps)) in
+        rw e (at_mark i a t h k (omega (arith, length-take 15 ps)))

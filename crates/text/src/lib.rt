@@ -23,12 +23,18 @@ pub struct Name {
     pub length: u8,
 }
 
-// The fields of a line, at most so many: where each starts and ends. Past the count there are zeros.
+// Where a field starts and where it ends.
+#[derive(Clone, Copy, PartialEq, Eq)]
+pub struct Span {
+    pub from: usize,
+    pub to: usize,
+}
+
+// The fields of a line, at most so many. Past the count there are spans of zeros. Memory is fixed, so the count stands beside the array.
 #[derive(Clone, Copy)]
 pub struct Fields {
     pub count: usize,
-    pub from: [usize; FIELDS],
-    pub to: [usize; FIELDS],
+    pub spans: [Span; FIELDS],
 }
 
 // Whether two texts hold the same bytes.

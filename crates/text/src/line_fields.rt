@@ -7,29 +7,19 @@ pub fn fields_of(text: &[u8], from: usize, to: usize) -> crate::Fields
     requires { (from ≤ to) × (to ≤ length text.now) }
     ensures { result ≡ fields_of text.now from to }
 {
-    let mut starts = [0usize; crate::FIELDS];
-    let mut ends = [0usize; crate::FIELDS];
+    let mut spans = [crate::Span { from: 0, to: 0 }; crate::FIELDS];
     let mut e = crate::find(text, 9, from, to);
-    starts[0] = from;
-    ends[0] = e;
-    let mut n = 1;
-    while n < crate::FIELDS {
+    spans[0] = crate::Span { from, to: e };
+    for n in 1..crate::FIELDS {
         if to <= e {
-            return crate::Fields {
-                count: n,
-                from: starts,
-                to: ends,
-            };
+            return crate::Fields { count: n, spans };
         }
         let a = e + 1;
         e = crate::find(text, 9, a, to);
-        starts[n] = a;
-        ends[n] = e;
-        n += 1;
+        spans[n] = crate::Span { from: a, to: e };
     }
     crate::Fields {
-        count: n,
-        from: starts,
-        to: ends,
+        count: crate::FIELDS,
+        spans,
     }
 }

@@ -9,20 +9,14 @@ offset_bounds-self-i c = omega (arith, few c.args.self.now.bytes.now c.args.self
 pub bounds-self-i : goal.bounds-self-i
 bounds-self-i c = omega (arith, few c.args.self.now.bytes.now c.args.self.now.fields c.args.self.now.are)
 
-pub offset_bounds-self-i-2 : goal.offset_bounds-self-i-2
-offset_bounds-self-i-2 c = omega (arith, few c.args.self.now.bytes.now c.args.self.now.fields c.args.self.now.are)
-
-pub bounds-self-i-2 : goal.bounds-self-i-2
-bounds-self-i-2 c = omega (arith, few c.args.self.now.bytes.now c.args.self.now.fields c.args.self.now.are)
-
 pub slice_bounds-result-count : goal.slice_bounds-result-count
-slice_bounds-result-count c = (at_field c.args.self.now.bytes.now c.args.self.now.fields c.args.self.now.are c.args.i c.requires).order
+slice_bounds-result-count c = omega (arith, (at_field c.args.self.now.bytes.now c.args.self.now.fields c.args.self.now.are c.args.i c.requires).order)
 
 pub slice_bounds-result-start : goal.slice_bounds-result-start
-slice_bounds-result-start c = (at_field c.args.self.now.bytes.now c.args.self.now.fields c.args.self.now.are c.args.i c.requires).order
+slice_bounds-result-start c = omega (arith, (at_field c.args.self.now.bytes.now c.args.self.now.fields c.args.self.now.are c.args.i c.requires).order)
 
 pub slice_bounds-result-end : goal.slice_bounds-result-end
-slice_bounds-result-end c = (at_field c.args.self.now.bytes.now c.args.self.now.fields c.args.self.now.are c.args.i c.requires).to
+slice_bounds-result-end c = omega (arith, (at_field c.args.self.now.bytes.now c.args.self.now.fields c.args.self.now.are c.args.i c.requires).to)
 
 pub returns : goal.returns
 returns c = (at_field c.args.self.now.bytes.now c.args.self.now.fields c.args.self.now.are c.args.i c.requires).bytes
