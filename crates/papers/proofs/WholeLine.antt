@@ -1,5 +1,5 @@
 -- Laws of the fields of a whole line: what `text::line_fields::fields_of` tells of a line that was lent as a part of its own.
-use mathlib.Core.Path.{◌≡◌, sym, ap, subst}
+use mathlib.Core.Path.{◌≡◌, ap, subst}
 use mathlib.Core.List.{List, []}
 use mathlib.Core.Logic.{⊎_elim}
 use Prim.Native.Nat.{ℕ, ◌-◌, ◌<◌}
@@ -7,7 +7,6 @@ use native.Mathlib.Omega.{arith}
 use native.Mathlib.Nat.{eq-or-lt_of_le}
 use lib.ListN.{length, get_or}
 use lib.Seq.{take_all}
-use Rattle.text.specs.declared.Fields.{Fields}
 use Rattle.text.specs.Parts.{split}
 use Rattle.text.specs.Fields.{no_span, line_fields_lem, fields_of}
 use Rattle.text.proofs.FieldLaws.{FieldAt, field_at, count-few, count-full, count-le}
@@ -31,9 +30,3 @@ module _ (l : List ℕ) where
   whole-field i h =
       subst (λ (ps : List (List ℕ)). FieldAt l 0 (length l) (get_or (fields_of l 0 (length l)).spans i no_span) (get_or ps i []))
       whole_fields (field_at l 0 (length l) i (omega arith) (omega arith) h)
-
-  -- the same of the fields as a call told them
-  pub told-field : (r : Fields) (i : ℕ) → r ≡ fields_of l 0 (length l) → i < r.count
-      → FieldAt l 0 (length l) (get_or r.spans i no_span) (get_or (split 9 l) i [])
-  told-field r i e h =
-      subst (λ (s : Fields). i < s.count → FieldAt l 0 (length l) (get_or s.spans i no_span) (get_or (split 9 l) i [])) (sym e) (whole-field i) h
