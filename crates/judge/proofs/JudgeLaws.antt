@@ -1,7 +1,7 @@
 -- What was found out and written is a judgement.
 use Prim.Native.Nat.{ℕ}
 use mathlib.Core.Path.{◌≡◌, refl, subst}
-use mathlib.Core.Logic.{inl, inr, ⊎_elim}
+use mathlib.Core.Logic.{inr, ⊎_elim}
 use mathlib.Core.List.{List, [], ◌∷◌, ◌++◌}
 use native.Mathlib.Omega.{arith}
 use lib.ListN.{length, take}
@@ -14,12 +14,11 @@ use Rattle.tables.specs.Cells.{relations_of_tables}
 use Rattle.answers.specs.declared.Answer.{Answer}
 use Rattle.answers.specs.Answers.{Listed}
 use Rattle.plan_listing.proofs.Lines.{have-rows}
-use Rattle.judge_listing.specs.fit.FitText.{fit_text}
 use Rattle.judge_listing.specs.JudgeText.{unfit_text, word_in, steps_from, steps_around}
 use Rattle.judge_listing.specs.Places.{GivenWalk}
 use Rattle.judge_listing.proofs.Places.{word-by-bit}
 use Rattle.verdicts.specs.declared.JudgementFound.{JudgementFound}
-use Rattle.std.specs.Prelude.{Option, Some, None, MatchOption}
+use Rattle.std.specs.Prelude.{Option, Some, MatchOption}
 use Rattle.verdicts.specs.declared.ShownCycle.{ShownCycle}
 use Rattle.verdicts.specs.Verdicts.{cycle_of, WaitsOf, Unfitting, JudgementIs}
 use Rattle.judge.specs.Call.{Shows, ShowsAll, JudgementWritten}
@@ -45,13 +44,6 @@ module _ (p : Relations) (φ : Mapping) (rows : List ℕ) (w : WaitsOf p rows) w
 -- ---- the judgement
 
 module _ (t : Tables) (φ : Mapping) (v : JudgementFound) (is : JudgementIs (relations_of_tables t) φ v) where
-  pub judged-fit : v.cycle ≡ None → (old new : List ℕ) (r : Answer) → Listed fit_text old new r → JudgementWritten t φ old new r
-  judged-fit e old new r l = record {
-    listing = fit_text;
-    allowed = inl (record { fit = subst (λ (q : Option ShownCycle). MatchOption q (Fit (relations_of_tables t) φ) (Unfitting (relations_of_tables t) φ)) e is.verdict; is = refl });
-    listed = l;
-  }
-
   module _ (c : ShownCycle) (e : v.cycle ≡ Some c) where
     unfitting : Unfitting (relations_of_tables t) φ c
     unfitting = subst (λ (q : Option ShownCycle). MatchOption q (Fit (relations_of_tables t) φ) (Unfitting (relations_of_tables t) φ)) e is.verdict

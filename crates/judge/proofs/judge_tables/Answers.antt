@@ -2,13 +2,8 @@
 use borrow.Author.Rules.{rules}
 use Rattle.plan_listing.specs.PlanText.{first_messages}
 use Rattle.verdicts.specs.Verdicts.{mapping_of_lem}
-use Rattle.judge.proofs.JudgeLaws.{judged-fit, judged-unfit, walk-given}
+use Rattle.judge.proofs.JudgeLaws.{judged-unfit, walk-given}
 use Rattle.judge.proofs.judge_tables.Goals as goal
-
-pub returns-in_default : goal.returns-in_default
-returns-in_default c =
-    let f = c.judge_of-found in
-    judged-fit c.args.t.now (mapping_of_lem c.args.networks) f.result f.ensures c.in_default.is _ _ _ c.fit_listing.ensures
 
 pub unfit_listing-requires : goal.unfit_listing-requires
 unfit_listing-requires c =

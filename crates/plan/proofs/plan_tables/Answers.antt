@@ -1,13 +1,9 @@
 -- `plan::plan_tables` meets its contract.
-use native.Mathlib.Omega.{arith}
 use borrow.Author.Rules.{rules}
 use Rattle.plan_listing.specs.PlanText.{first_messages, first_networks}
 use Rattle.plan_listing.proofs.Lines.{have-rows}
 use Rattle.plan.proofs.PlanLaws.{planned-three, planned-two}
 use Rattle.plan.proofs.plan_tables.Goals as goal
-
-pub map_listing-requires : goal.map_listing-requires
-map_listing-requires c = (omega (arith, c.messages.ensures.many, c.requires.0.messages), omega (arith, c.in-Ranked.ensures.few))
 
 pub returns-in-Ranked : goal.returns-in-Ranked
 unfolding first_networks
