@@ -114,7 +114,7 @@ fn shown_length(a: Answer) -> usize
     a.length
 }
 
-// The answer as one number, for a host.
+// The answer as one number, for a host. No From: that could ask nothing, and the contract asks that each number has its place.
 pub fn packed(a: Answer) -> u64
     requires { Small a }
     ensures { result ≡ packed_answer a }

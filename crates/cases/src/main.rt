@@ -134,7 +134,7 @@ fn pass_over(input: &mut impl Read, length: TextLength) {
     let _ = next_text(input, length, &mut room);
 }
 
-// ---- the output
+// ---- the output. Functions and no Display: they print of one value what this program asks, and no other place prints it.
 
 // The rows of the messages, in hexadecimal.
 fn print_rows(rt: &impl Print, rows: &[u64]) -> io::Result<()> {

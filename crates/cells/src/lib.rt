@@ -1,4 +1,5 @@
 // A cell's line of a protocol text: the cell it stands for, or how it is refused.
+// The limits of the counts are asked for in contracts: `Tables` itself stands for every value (see there).
 #![tactic(auto)]
 
 pub mod places;

@@ -1,4 +1,5 @@
 // What reading a cell's line gives: the cell that it stands for, where all that it names is known; else the first field that is not.
+// The limits of the counts are asked for in contracts: `Tables` itself stands for every value (see there).
 ghost use Rattle.std.specs.Prelude.{◌≡◌, ◌≤◌, ◌<◌, get_or, Ok};
 ghost use Rattle.cells.specs.readings.Known.{CellRead};
 ghost use Rattle.text.specs.Parts.{split};
@@ -12,7 +13,7 @@ use papers::refused::Field;
 use rules::{Message, State};
 use tables::{Cell, Controller, Outcome, Stability, Tables};
 
-// A cell as it is read; it is stuck where it stalls in a stable state.
+// A cell as it is read; it is stuck where it stalls in a stable state. A bool beside it and no Err: 9 FULL is told before 10 STALL_STABLE.
 #[derive(Clone, Copy)]
 pub struct CellReading {
     pub stuck: bool,
@@ -21,7 +22,7 @@ pub struct CellReading {
 
 // ---- a line with `stall`
 
-// Whether a declared state is a stable one.
+// Whether a declared state is a stable one. A match, as the definition has its two cases.
 fn in_stable(t: &Tables, state: State) -> bool
     requires { (state.0 < t.now.state_count) × (t.now.state_count ≤ 64) }
     ensures { result ≡ is_stable (get_or (states_of t.now) state.0 no_state_row).stability }

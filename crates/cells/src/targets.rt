@@ -1,4 +1,5 @@
 // Where a cell goes to, and what it sends.
+// The limits of the counts are asked for in contracts: `Tables` itself stands for every value (see there).
 ghost use Rattle.std.specs.Prelude.{◌≤◌};
 ghost use Rattle.text.specs.Parts.{split};
 ghost use Rattle.lines.specs.Line.{sent_fields};

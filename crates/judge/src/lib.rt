@@ -1,4 +1,5 @@
 // The judging call: a protocol text and a mapping text in, a listing out.
+// `TablesOk` is asked for in contracts: `Tables` itself stands for every value (see there).
 #![tactic(auto)]
 
 pub mod program;
@@ -13,7 +14,7 @@ use answers::unlisted::{NoRoom, Paper, Unlisted};
 use rules::Network;
 use tables::Tables;
 
-// The judgement of a mapping for a protocol's tables, written to the output if there is room for it.
+// The judgement of a mapping for a protocol's tables, written to the output if there is room for it. The networks are handed over by the reader.
 fn judge_tables(
     t: &Tables,
     networks: [Network; tables::MESSAGES],

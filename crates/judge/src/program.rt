@@ -1,4 +1,4 @@
-// What the judging program has to say of two texts: the listing, or the line of a refusal.
+// What the judging program has to say of two texts: the listing, or the line of a refusal. See plan/src/program.rt for why there are two.
 ghost use Rattle.std.specs.Prelude.{◌≤◌, length, replicate};
 ghost use Rattle.judge.specs.program.Printed.{JudgePrinted};
 

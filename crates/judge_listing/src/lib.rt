@@ -94,7 +94,7 @@ impl Walk<'_> {
         }
     }
 
-    // How many bytes the listing has. A step leads to the next place, so both loops go over places.
+    // How many bytes the listing has, before it is written. A step leads to the next place, so both loops go over places.
     fn listing_length(&self) -> usize
         ensures { result ≡ length (unfit_text self.now.rows.now (walk_steps self.now.waits.now self.now.cycle.now)) }
     {

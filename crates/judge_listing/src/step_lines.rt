@@ -51,7 +51,8 @@ fn more_between(out: &mut [u8], at: usize, word: StepWord) -> usize
 }
 
 impl NamedStep {
-    // How many bytes the step's line has: at most 62, with two names of 24 bytes and the longer word.
+    // How many bytes the step's line has: at most 62, with two names of 24 bytes and the longer word. A writer that only counts would say this sum
+    // no shorter.
     pub(crate) fn length(self) -> usize
         ensures { TextLength (named_line self) 62 result }
     {

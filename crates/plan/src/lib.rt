@@ -1,4 +1,5 @@
 // The planning call: a protocol text in, a listing out.
+// `TablesOk` is asked for in contracts: `Tables` itself stands for every value (see there).
 #![tactic(auto)]
 
 pub mod program;

@@ -28,7 +28,7 @@ pub(crate) fn put_number_line(out: &mut [u8], word: &[u8], n: u32) -> usize
     text::writers::more(out, c, text::words::NEWLINE)
 }
 
-// The header and the class, a line each.
+// The header and the class, a line each. The class is the number that is printed, so it is no enum.
 pub(crate) fn put_head(out: &mut [u8], class: u32) -> usize
     requires { length (class_head class) ≤ length out.old }
     ensures { Wrote (class_head class) out.old out.new result }

@@ -1,4 +1,5 @@
 // The four sections of a protocol text: one loop over the lines of each. It ends at the first line that is not of the section.
+// `Kept` is asked for in contracts: `Tables` itself stands for every value (see there).
 ghost use Rattle.std.specs.Prelude.{◌≡◌, true, false};
 ghost use Rattle.text.specs.Parts.{split};
 ghost use Rattle.lines.specs.Line.{message, event, state, cell, says_of};

@@ -1,4 +1,5 @@
 // What is asked of the whole text, once its lines were read.
+// `Kept` is asked for in contracts: `Tables` itself stands for every value (see there).
 ghost use Rattle.std.specs.Prelude.{◌≡◌};
 ghost use Rattle.papers.specs.refused.Refused.{refusal_of};
 ghost use Rattle.protocol.specs.whole.Whole.{whole_refusal};

@@ -395,7 +395,7 @@ fn show(out: &mut [u8]) {
     }
 }
 
-// Prints the line of a call.
+// Prints the line of a call: its numbers, as a host gets them.
 fn report(rt: &impl Print, n: usize, answer: RelationsAnswer, out: &mut [u8]) -> io::Result<()> {
     print!(rt;
         "{n} {} {} {} {} {} ",

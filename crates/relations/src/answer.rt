@@ -94,7 +94,7 @@ impl From<Result<RelationsPlan, CallRefused>> for RelationsAnswer {
     }
 }
 
-// The answer as one number, for a host.
+// The answer as one number, for a host. No From: that could ask nothing, and the contract asks that each number has its place.
 pub fn packed(a: RelationsAnswer) -> u64
     requires { RelationsSmall a }
     ensures { result ≡ packed_relations a }

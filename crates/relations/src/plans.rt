@@ -1,4 +1,5 @@
 // The plan of bare relations: of the rows of waits, and of two tables that pass the checks.
+// Rows and their number n go side by side: a caller lends tables as long as its form asks, of which n rows are used (as in `walks`).
 ghost use Rattle.std.specs.Prelude.{◌≤◌, ◌≡◌, ◌≢◌, Some, Ok, length};
 ghost use Rattle.rows.specs.Rows.{Stray};
 ghost use Rattle.rows.specs.Gather.{Tidy};

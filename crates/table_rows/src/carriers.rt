@@ -1,4 +1,5 @@
 // Rule 2: the rows of carriers, over all the cells.
+// `TablesOk` is asked for in contracts: `Tables` itself stands for every value (see there).
 ghost use Rattle.std.specs.Prelude.{◌↔◌, ℕ};
 ghost use Rattle.rules.specs.Rules.{Carrier};
 ghost use Rattle.rows.specs.Rows.{Bit};

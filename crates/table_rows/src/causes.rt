@@ -1,4 +1,5 @@
 // Rule 1: the rows of causes, over all the cells.
+// `TablesOk` is asked for in contracts: `Tables` itself stands for every value (see there).
 ghost use Rattle.tables.specs.Cells.{TablesOk};
 ghost use Rattle.tables.specs.Relations.{CausesRows};
 

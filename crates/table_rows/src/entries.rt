@@ -1,4 +1,5 @@
 // Refusal 13, NO_ENTRY: the first stalled message for whose state no taken state has a carrier.
+// `TablesOk` is asked for in contracts: `Tables` itself stands for every value (see there).
 ghost use Rattle.std.specs.Prelude.{◌≡◌, ◌↔◌, ◌<◌, true, get_or};
 ghost use Rattle.rows.specs.Rows.{Bit};
 ghost use Rattle.tables.specs.Cells.{as_rule_cell, TablesOk};

@@ -1,4 +1,5 @@
 // Rule 3: the states that are taken, and who carries to one of them.
+// `TablesOk` is asked for in contracts: `Tables` itself stands for every value (see there).
 ghost use Rattle.std.specs.Prelude.{◌≤◌, length};
 ghost use Rattle.tables.specs.Cells.{TablesOk};
 ghost use Rattle.tables.specs.Relations.{LeadingRows, TakenRows, StallerRows};
@@ -47,6 +48,7 @@ fn add_own(rows: &mut [u64], n: usize)
     requires { (n ≤ 64) × (n ≤ length rows.old) }
     ensures { OwnAdded n rows.old rows.new }
 {
+    // over places and not over the rows: the place is what is stored
     for i in 0..n {
         rows[i] = rows::with_bit(rows[i], i);
     }

@@ -1,4 +1,5 @@
 // Rule 3: the rows of stalls, over all the cells.
+// `TablesOk` is asked for in contracts: `Tables` itself stands for every value (see there).
 ghost use Rattle.std.specs.Prelude.{◌<◌};
 ghost use Rattle.tables.specs.Cells.{TablesOk};
 ghost use Rattle.tables.specs.Relations.{Adds, StallsRows};
@@ -14,6 +15,7 @@ fn add_column(who: u64, b: Message, rows: &mut [u64; tables::MESSAGES])
     requires { b.0 < 64 }
     ensures { Adds (Column who b.0) rows.old rows.new }
 {
+    // over places and not over the rows: the place is what is stored
     for a in 0..tables::MESSAGES {
         if rows::has(who, a) {
             rows[a] = rows::with_bit(rows[a], b.index());

@@ -58,7 +58,8 @@ pub enum Outcome {
     Go(State),
 }
 
-// One cell of a controller's table. Its line is not stored: it follows from the counts and the cell's place.
+// One cell of a controller's table. Its line is not stored: it follows from the counts and the cell's place. Memory is fixed, so the messages sent
+// are an array with a count.
 #[derive(Clone, Copy)]
 pub struct Cell {
     pub state: State,
@@ -88,6 +89,7 @@ pub struct StateRow {
 
 // All there is to know of a protocol. What is past a count is as cleared.
 // Arrays of full size with a count beside each: the tables are in fixed memory, with no heap. Read them through the slices below.
+// No invariant: definitions and laws speak of every value of this type, also of those that no text gives, and a text is to be written back from any.
 #[derive(Clone, Copy)]
 pub struct Tables {
     pub messages: [MessageRow; MESSAGES],

@@ -1,4 +1,4 @@
-// Names: as they are kept in tables, and the rule that their bytes keep.
+// Names: as they are kept in tables, and the rule that their bytes keep. Functions and no methods: docs/PROMISES.md names them so.
 ghost use Rattle.std.specs.Prelude.{◌≡◌, [], ◌≤◌, length};
 ghost use Rattle.text.specs.Parts.{is_same_text};
 ghost use Rattle.text.specs.Name.{name_text, name_of_lem, is_name_byte, name_rule};

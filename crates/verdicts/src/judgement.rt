@@ -1,4 +1,5 @@
 // From a protocol's tables and a mapping to a judgement.
+// `TablesOk` is asked for in contracts: `Tables` itself stands for every value (see there).
 ghost use Rattle.std.specs.Prelude.{◌<◌, ◌≤◌};
 ghost use Rattle.tables.specs.Cells.{relations_of_tables, TablesOk};
 ghost use Rattle.walks.specs.Walks.{Within};
@@ -9,7 +10,7 @@ use crate::{JudgementFound, ShownCycle};
 use rules::Network;
 use tables::Tables;
 
-// The judgement that the rows give: the shown cycle begins with a waits step.
+// The judgement that the rows give: the shown cycle begins with a waits step. The rows of waits are handed over: the judgement keeps them.
 fn judge_of_rows(
     waits: [u64; tables::MESSAGES],
     steps: &[u64; tables::MESSAGES],

@@ -1,4 +1,5 @@
 // What is found out about a protocol's tables: a plan, or the judgement of a mapping; and the plan itself.
+// `TablesOk` is asked for in contracts: `Tables` itself stands for every value (see there).
 #![tactic(auto)]
 
 pub mod judgement;

@@ -1,4 +1,5 @@
 // The rows of waits by rule 4, and the number of waits pairs.
+// Rows and their number n go side by side: a caller lends tables as long as its form asks, of which n rows are used (as in `walks`).
 #![tactic(auto)]
 
 pub mod steps;

@@ -17,7 +17,7 @@ pub fn vn_relations(n: u64, causes: &[u8], stalls: &[u8], out: &mut [u8]) -> u64
     relations::answer::packed(RelationsAnswer::from(told))
 }
 
-// The relations call in its second form: rows of 8 bytes, and up to 64 messages.
+// The relations call in its second form: rows of 8 bytes, and up to 64 messages. A name of its own, for C.
 pub fn vn_relations64(n: u64, causes: &[u8], stalls: &[u8], out: &mut [u8]) -> u64
     ensures { PackedRelations 8 64 n causes.now stalls.now out.old out.new result }
 {
