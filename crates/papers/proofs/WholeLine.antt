@@ -1,15 +1,15 @@
 -- Laws of the fields of a whole line: what `text::line_fields::fields_of` tells of a line that was lent as a part of its own.
-use mathlib.Core.Path.{◌≡◌, ap, subst}
-use mathlib.Core.List.{List, []}
+use mathlib.Core.Path.{◌≡◌, ap}
+use mathlib.Core.List.{List}
 use mathlib.Core.Logic.{⊎_elim}
 use Prim.Native.Nat.{ℕ, ◌-◌, ◌<◌}
 use native.Mathlib.Omega.{arith}
 use native.Mathlib.Nat.{eq-or-lt_of_le}
-use lib.ListN.{length, get_or}
+use lib.ListN.{length}
 use lib.Seq.{take_all}
 use Rattle.text.specs.Parts.{split}
-use Rattle.text.specs.Fields.{no_span, line_fields_lem, fields_of}
-use Rattle.text.proofs.FieldLaws.{FieldAt, field_at, count-few, count-full, count-le}
+use Rattle.text.specs.Fields.{line_fields_lem, fields_of}
+use Rattle.text.proofs.FieldLaws.{count-few, count-full, count-le}
 
 module _ (l : List ℕ) where
   pub whole_fields : line_fields_lem l 0 (length l) ≡ split 9 l
@@ -23,10 +23,3 @@ module _ (l : List ℕ) where
 
   pub count-whole : (n : ℕ) → n < 15 → (fields_of l 0 (length l)).count ≡ n → length (split 9 l) ≡ n
   count-whole n h e = let q = ap length whole_fields in omega (arith, count-few l 0 (length l) (omega arith))
-
-  -- where the field at i stands
-  pub whole-field : (i : ℕ) → i < (fields_of l 0 (length l)).count
-      → FieldAt l 0 (length l) (get_or (fields_of l 0 (length l)).spans i no_span) (get_or (split 9 l) i [])
-  whole-field i h =
-      subst (λ (ps : List (List ℕ)). FieldAt l 0 (length l) (get_or (fields_of l 0 (length l)).spans i no_span) (get_or ps i []))
-      whole_fields (field_at l 0 (length l) i (omega arith) (omega arith) h)
