@@ -14,7 +14,7 @@ fn more_tabbed(out: &mut [u8], at: usize, n: u32) -> usize
     text::writers::more_number(out, b, n)
 }
 
-// What a program prints on a refusal, at the front of out.
+// What a program prints on a refusal, at the front of out: numbers, so it is lent numbers. (The docs name it: a narrower type would ask more.)
 pub fn put_refused(out: &mut [u8], why: Refusal, paper: u8) -> usize
     requires { (length (refused_text_lem why paper) ≤ length out.old) × (why.line < 4294967296) }
     ensures { Wrote (refused_text_lem why paper) out.old out.new result }

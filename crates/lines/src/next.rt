@@ -5,7 +5,7 @@ ghost use Rattle.lines.specs.next.Next.{Next};
 
 use papers::records::Record;
 
-// Where the line ends, and its fields.
+// Where the line ends, and the line.
 #[derive(Clone, Copy)]
 pub struct NextLine<'a> {
     pub end: usize,

@@ -1,5 +1,5 @@
 // The fixed words of a line, as a field says them: the type of a message; the controller of a state, and whether it is stable or transient. Each
-// asks for its words in the order of the paper, so a table of words and a function over it would say no less.
+// asks for its words in the order of the paper, so a table of words and a function over it would be no plainer.
 ghost use Rattle.std.specs.Prelude.{◌≡◌, ◌<◌};
 ghost use Rattle.text.specs.Parts.{split};
 ghost use Rattle.text.specs.Line.{field};

@@ -13,7 +13,8 @@ use crate::refused::{Reason, Refused};
 // The most bytes that a text may have.
 pub const MOST_BYTES: usize = 49152;
 
-// Why and where a paper is refused, as the C interface and the listings of refusals tell it: in numbers. Its number is 0 where nothing is refused.
+// Why and where a paper is refused, in the numbers that a host gets (the C interface) and that a program prints. Its number is 0 where nothing is
+// refused.
 #[derive(Clone, Copy)]
 pub struct Refusal {
     pub number: u8,

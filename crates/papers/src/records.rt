@@ -6,7 +6,7 @@ ghost use Rattle.papers.specs.records.FieldsAre.{FieldsAre};
 
 use text::Fields;
 
-// A line, and where its fields stand.
+// A line, and where its fields stand. Its number in the text goes beside it, where a refusal is told: the fields do not hang on it.
 #[derive(Clone, Copy)]
 pub struct Record<'a> {
     pub bytes: &'a [u8],

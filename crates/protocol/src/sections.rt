@@ -89,6 +89,7 @@ fn read_cell(line: &Record, nth: usize, t: &mut Tables) -> Result<(), Refused>
     Ok(())
 }
 
+// A switch and no closure: what a section's line does is promised by its section, once for the four.
 fn read_line(section: Section, line: &Record, nth: usize, t: &mut Tables) -> Result<(), Refused>
     requires word { says_of (section_lem section) (split 9 line.now.bytes.now) ≡ true }
     requires kept { Kept t.old }

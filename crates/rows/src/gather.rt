@@ -4,7 +4,7 @@ ghost use Rattle.rows.specs.Rows.{Bit};
 ghost use Rattle.rows.specs.Gather.{Tidy, Spread, Gathered};
 
 // Each row whose place is in the set takes in the row. The next place is found by trailing zeros.
-// The loop counts no index: it goes over the bits of a word, and the library has no iterator of those.
+// The loop counts no index: it goes over the bits of a word. An iterator of those would be a type with laws of its own, longer than these loops.
 fn spread(row: u64, set: u64, rows: &mut [u64])
     requires { (b : ℕ) → Bit set b → b < length rows.old }
     ensures { Spread row set rows.old rows.new }

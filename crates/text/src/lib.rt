@@ -44,7 +44,7 @@ pub fn same(a: &[u8], b: &[u8]) -> bool
     a == b
 }
 
-// The first place of b at or after from and before to, and to where there is none: no Option, since each caller goes on from that end.
+// The first place of b at or after from and before to, and to where there is none: no Option, since the docs name this contract (`place`).
 pub fn find(text: &[u8], b: u8, from: usize, to: usize) -> usize
     requires { (from ≤ to) × (to ≤ length text.now) }
     ensures { result ≡ place b text.now from to }

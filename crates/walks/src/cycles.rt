@@ -4,8 +4,8 @@ ghost use Rattle.rows.specs.Closure.{KeptFrom, Cleared};
 ghost use Rattle.walks.specs.Walks.{Within, Cycle};
 ghost use Rattle.walks.specs.Sets.{Below, After, Shortest, StartIs, BestStart, Layers, Drawn};
 
-// The rows w of first steps and s of all steps, and n, go side by side, as `cycle` is lent them: a struct of the three would be made in `cycle` alone
-// and taken apart in each function, and each contract would speak of its fields.
+// The rows w of first steps and s of all steps, and n, go side by side, as `cycle` is lent them, and no struct holds the three: some of the functions
+// take s alone, as `into` does.
 
 // Where the shortest closed walks begin.
 #[derive(Clone, Copy)]
@@ -17,7 +17,7 @@ struct Start {
 }
 
 // The numbers below n to which a step of s leads from a number of the set.
-// The loop counts no index: it goes over the bits of a word, and the library has no iterator of those.
+// The loop counts no index: it goes over the bits of a word. An iterator of those would be a type with laws of its own, longer than these loops.
 fn after(s: &[u64], n: usize, set: u64) -> u64
     requires le_n { (1 ≤ n) × (n ≤ 64) × (n ≤ length s.now) }
     requires below { Below n set }

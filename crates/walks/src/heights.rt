@@ -1,4 +1,5 @@
-// Heights in a relation that is given by rows of bits: bit j of row i says that a step leads from i to j.
+// Heights in a relation that is given by rows of bits: bit j of row i says that a step leads from i to j. Rows, their number and the sets go side by
+// side, as `heights` is lent them.
 ghost use Rattle.std.specs.Prelude.{ℕ, ◌<◌, ◌≤◌, length, get_or};
 ghost use Rattle.rows.specs.Rows.{Bit};
 ghost use Rattle.rows.specs.Closure.{KeptFrom, Cleared};
@@ -6,7 +7,7 @@ ghost use Rattle.walks.specs.Walks.{Heights};
 ghost use Rattle.walks.specs.Sets.{Below, Staying, Rounds, LastSet, Written};
 
 // The numbers of the set, which are below n, from which a step leads into the set.
-// The loop counts no index: it goes over the bits of a word, and the library has no iterator of those.
+// The loop counts no index: it goes over the bits of a word. An iterator of those would be a type with laws of its own, longer than these loops.
 fn staying(w: &[u64], n: usize, set: u64) -> u64
     requires { (n ≤ 64) × (n ≤ length w.now) × Below n set }
     ensures { Staying w.now set result }

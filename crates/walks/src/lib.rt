@@ -1,5 +1,6 @@
 // Walks in a relation that is given by rows of bits: bit j of row i says that a step leads from i to j. Heights and the shown
-// cycle are found in the modules; one step back, which both take, is here. A set of numbers is a row too.
+// cycle are found in the modules; one step back, which both take, is here. A set of numbers is a row too. Rows and their number n go side by side: a
+// caller lends tables as long as its form asks.
 #![tactic(auto)]
 
 pub mod cycles;
