@@ -3,7 +3,6 @@ pub mod Fields
 pub mod Walk
 pub mod OpeningLaws
 pub mod Determined
-pub mod WholeLine
 pub mod Recorded
 pub mod Refusals
 pub mod Joined

@@ -15,7 +15,7 @@ fn add_column(who: u64, b: Message, rows: &mut [u64; tables::MESSAGES])
     requires { b.0 < 64 }
     ensures { Adds (Column who b.0) rows.old rows.new }
 {
-    // over places and not over the rows: the place is what is stored
+    // over places and not over the rows: a row takes b in by its place
     for a in 0..tables::MESSAGES {
         if rows::has(who, a) {
             rows[a] = rows::with_bit(rows[a], b.index());

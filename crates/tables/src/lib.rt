@@ -89,7 +89,8 @@ pub struct StateRow {
 
 // All there is to know of a protocol. What is past a count is as cleared.
 // Arrays of full size with a count beside each: the tables are in fixed memory, with no heap. Read them through the slices below.
-// No invariant: definitions and laws speak of every value of this type, also of those that no text gives, and a text is to be written back from any.
+// No invariant: `TablesOk` and `Kept` are what accepted texts give (theorem `accepted-kept` of reading_laws), and a text is to be written back from any
+// value, also from one that no text gives.
 #[derive(Clone, Copy)]
 pub struct Tables {
     pub messages: [MessageRow; MESSAGES],

@@ -1,5 +1,5 @@
 // The rows of steps among a protocol's messages: waits steps that are given, and queues steps by rule 5.
-// Rows and their number n go side by side: a caller lends tables as long as its form asks, of which n rows are used (as in `walks`).
+// Memory is fixed: of the 64 rows n are used, so n goes beside them.
 ghost use Rattle.std.specs.Prelude.{◌<◌, ◌≤◌};
 ghost use Rattle.waits.specs.steps.Steps.{mapping_of_lem, StepsRows, WithBehind, QueuesRow};
 

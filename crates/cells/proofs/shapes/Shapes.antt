@@ -11,9 +11,8 @@ use borrow.Author.Tests.{eq-eqb, ne_eqb, eqb-true, lt-ltb, le-ltb, le-leb, lt-le
 use Rattle.std.specs.Prelude.{Some, None, Ok, Err}
 use Rattle.papers.specs.declared.refused.Field.{Field}
 use Rattle.papers.specs.Fields.{looked, first_bad_field}
-use Rattle.papers.specs.records.FieldsAre.{FieldsAre}
+use Rattle.papers.specs.declared.records.Record.{Record}
 use Rattle.papers.proofs.Recorded.{few, counted, many}
-use Rattle.text.specs.declared.Fields.{Fields}
 use Rattle.text.specs.Parts.{split, is_same_text}
 use Rattle.text.specs.Words.{stall_word, go_word}
 use Rattle.tables.specs.declared.Controller.{Controller}
@@ -31,18 +30,17 @@ use Rattle.cells.specs.shapes.Shape.{shape_of, StallLine, GoLine}
 
 -- ---- the count of fields
 
-module _ (line : List ℕ) (f : Fields) (are : FieldsAre line f) where
-  -- where the line has at most fourteen fields the count is theirs
-  pub count-short : length (split 9 line) ≤ 14 → f.count ≡ length (split 9 line)
-  count-short h = grind (arith, few line f are, counted line f are, many line f are)
+module _ (r : Record) where
+  abbrev line : List ℕ
+  line = r.bytes.now
 
   -- a count past fourteen says that there are more
-  pub count_long : 14 < f.count → 15 ≤ length (split 9 line)
-  count_long h = omega (arith, few line f are, many line f are)
+  pub count_long : 14 < r.fields.count → 15 ≤ length (split 9 line)
+  count_long h = omega (arith, few r, many r)
 
   -- what is counted is there, also where there is more
-  pub count-there : f.count ≤ length (split 9 line)
-  count-there = grind (arith, few line f are, counted line f are, many line f are)
+  pub count-there : r.fields.count ≤ length (split 9 line)
+  count-there = grind (arith, few r, counted r, many r)
 
 -- ---- each way to a shape
 

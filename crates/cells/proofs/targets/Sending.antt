@@ -13,9 +13,8 @@ use Rattle.rules.specs.declared.Message.{Message}
 use Rattle.tables.specs.declared.Tables.{Tables}
 use Rattle.tables.specs.names.Names.{is_message}
 use Rattle.lines.specs.Line.{sent_fields, message_no}
-use Rattle.text.specs.declared.Fields.{Fields}
 use Rattle.text.specs.Parts.{split}
-use Rattle.papers.specs.records.FieldsAre.{FieldsAre}
+use Rattle.papers.specs.declared.records.Record.{Record}
 use Rattle.papers.proofs.Recorded.{counted}
 use Rattle.lines.specs.Checks.{all_messages, sent_names}
 use Rattle.papers.specs.Fields.{first_bad_field}
@@ -26,8 +25,8 @@ abbrev pub no_messages : List Message
 no_messages = replicate 8 (record { 0 = 0 })
 
 -- how many there are
-pub sent_many : (line : List ℕ) (f : Fields) → FieldsAre line f → 6 ≤ f.count → f.count ≤ 14 → 6 + length (sent_fields (split 9 line)) ≡ f.count
-sent_many line f are h k = omega (arith, length-drop 6 (split 9 line), counted line f are)
+pub sent_many : (r : Record) → 6 ≤ r.fields.count → r.fields.count ≤ 14 → 6 + length (sent_fields (split 9 r.bytes.now)) ≡ r.fields.count
+sent_many r h k = omega (arith, length-drop 6 (split 9 r.bytes.now), counted r)
 
 module _ (t : Tables) where
   -- ---- all of them are messages

@@ -7,7 +7,6 @@ use native.Mathlib.Omega.{arith}
 use lib.ListN.{length}
 use lib.Dec.{eqb, ltb}
 use borrow.Author.Tests.{eqb-true}
-use Rattle.text.specs.declared.Fields.{Fields}
 use Rattle.text.specs.Parts.{split}
 use Rattle.std.specs.Prelude.{Some, None, Result, Ok, Err}
 use Rattle.papers.specs.declared.refused.Field.{Field}
@@ -17,7 +16,7 @@ use Rattle.tables.specs.declared.Stability.{Stability}
 use Rattle.text.specs.Line.{Line, field}
 use Rattle.lines.specs.Line.{Section, message, event, state, is_kind, kind_of, is_controller, controller_of, is_stability, stability_of}
 use Rattle.lines.specs.Checks.{shaped, shape_field}
-use Rattle.papers.specs.records.FieldsAre.{FieldsAre}
+use Rattle.papers.specs.declared.records.Record.{Record}
 use Rattle.lines.specs.words.Found.{found_kind}
 use Rattle.lines.specs.words.Found.{found_controller, found_stability}
 use Rattle.lines.specs.shapes.Shapes.{shape_told, message_shape_lem, event_shape_lem, state_shape_lem}
@@ -42,18 +41,21 @@ module _ {A : Type 0} where
 
 -- ---- the fields of a shaped line
 
-module _ (line : List ℕ) (f : Fields) (are : FieldsAre line f) where
-  pub message-count : shaped message (split 9 line) ≡ true → f.count ≡ 3
+module _ (r : Record) where
+  abbrev line : List ℕ
+  line = r.bytes.now
+
+  pub message-count : shaped message (split 9 line) ≡ true → r.fields.count ≡ 3
   message-count e =
-      eqb-true f.count 3 (count_same line f are 3 (omega arith) ∙ and_left (eqb (length (split 9 line)) 3) (is_kind (field (split 9 line) 2)) e)
+      eqb-true r.fields.count 3 (count_same r 3 (omega arith) ∙ and_left (eqb (length (split 9 line)) 3) (is_kind (field (split 9 line) 2)) e)
 
-  pub event-count : shaped event (split 9 line) ≡ true → f.count ≡ 2
-  event-count e = eqb-true f.count 2 (count_same line f are 2 (omega arith) ∙ e)
+  pub event-count : shaped event (split 9 line) ≡ true → r.fields.count ≡ 2
+  event-count e = eqb-true r.fields.count 2 (count_same r 2 (omega arith) ∙ e)
 
-  pub state-count : shaped state (split 9 line) ≡ true → f.count ≡ 4
+  pub state-count : shaped state (split 9 line) ≡ true → r.fields.count ≡ 4
   state-count e =
-      eqb-true f.count 4
-      (count_same line f are 4 (omega arith)
+      eqb-true r.fields.count 4
+      (count_same r 4 (omega arith)
       ∙ and_left (eqb (length (split 9 line)) 4) (is_controller (field (split 9 line) 1) && is_stability (field (split 9 line) 3)) e)
 
 -- ---- whole lines

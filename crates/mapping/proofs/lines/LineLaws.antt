@@ -12,16 +12,15 @@ use Rattle.rules.specs.Numbers.{as_network}
 use Rattle.text.specs.Line.{Line, field, says}
 use Rattle.text.specs.Name.{name_text}
 use Rattle.text.specs.Words.{map_word}
-use Rattle.text.specs.declared.Fields.{Fields}
 use Rattle.papers.specs.Checks.{Check, check, field_check, refusal, field_refusal, none, first_of}
 use Rattle.papers.specs.Fields.{looked, first_bad_field}
 use Rattle.papers.proofs.Checks.{first-given, first-passed}
 use Rattle.papers.proofs.Fields.{bad-first, good-first}
-use Rattle.papers.proofs.WholeLine.{whole-count, count-whole}
+use Rattle.papers.proofs.Recorded.{counted, count-short}
 use Rattle.papers.specs.declared.refused.Field.{Field}
 use Rattle.papers.specs.declared.refused.Refused.{Refused}
 use Rattle.papers.specs.refused.Refused.{told_refusal}
-use Rattle.papers.specs.records.FieldsAre.{FieldsAre}
+use Rattle.papers.specs.declared.records.Record.{Record}
 use Rattle.std.specs.Prelude.{Result, Ok, Err, ⊤}
 use Rattle.rules.specs.declared.Network.{Network}
 use Rattle.tables.specs.declared.MessageRow.{MessageRow}
@@ -83,15 +82,18 @@ shaped-three f e = go (eqb (length f) 3) refl
     go false q = absurd (let z : ◌≡◌ {A = Bool} false true = ap (λ (t : Bool). t && says f 0 map_word) (sym q) ∙ e in let k : ◌≡◌ {A = ℕ} 0 1 = cc in omega arith)
 
 -- how many fields a record has
-module _ (line : List ℕ) (r : Fields) (are : FieldsAre line r) where
-  pub shaped-count : map_shaped (split 9 line) ≡ true → r.count ≡ 3
-  shaped-count h = ap (λ (s : Fields). s.count) are ∙ whole-count line 3 (omega arith) (shaped-three (split 9 line) h)
+module _ (r : Record) where
+  abbrev line : List ℕ
+  line = r.bytes.now
 
-  pub three : r.count ≡ 3 → length (split 9 line) ≡ 3
-  three e = count-whole line 3 (omega arith) (ap (λ (s : Fields). s.count) (sym are) ∙ e)
+  pub shaped-count : map_shaped (split 9 line) ≡ true → r.fields.count ≡ 3
+  shaped-count h = let e = shaped-three (split 9 line) h in count-short r (omega arith) ∙ e
 
-  pub not-three : (r.count ≡ 3 → ⊥) → length (split 9 line) ≡ 3 → ⊥
-  not-three h e = h (ap (λ (s : Fields). s.count) are ∙ whole-count line 3 (omega arith) e)
+  pub three : r.fields.count ≡ 3 → length (split 9 line) ≡ 3
+  three e = counted r (omega arith) ∙ e
+
+  pub not-three : (r.fields.count ≡ 3 → ⊥) → length (split 9 line) ≡ 3 → ⊥
+  not-three h e = h (count-short r (omega arith) ∙ e)
 
 -- ---- the first of a line's checks
 

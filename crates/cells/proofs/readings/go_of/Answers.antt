@@ -2,14 +2,14 @@
 use native.Mathlib.Omega.{arith}
 use Rattle.text.specs.Parts.{split}
 use Rattle.std.proofs.lemmas.Result.{err_from_is_err_and}
-use Rattle.cells.proofs.shapes.Shapes.{count-short}
+use Rattle.papers.proofs.Recorded.{count-short}
 use Rattle.cells.proofs.readings.Whole.{not-placed}
 use Rattle.cells.proofs.readings.Going.{not-targeted, going}
 use Rattle.cells.proofs.readings.go_of.Goals as goal
 
 pub place_of-requires : goal.place_of-requires
 place_of-requires c =
-    (omega (arith, c.requires.0.some, c.requires.0.few, count-short _ _ c.args.line.now.are c.requires.0.few), c.requires.1, c.requires.2, c.requires.3)
+    (omega (arith, c.requires.0.some, c.requires.0.few, count-short c.args.line.now c.requires.0.few), c.requires.1, c.requires.2, c.requires.3)
 
 pub returns-in_err-at : goal.returns-in_err-at
 returns-in_err-at c =
@@ -18,7 +18,7 @@ returns-in_err-at c =
 
 pub target_of-requires : goal.target_of-requires
 target_of-requires c =
-    let e = count-short _ _ c.args.line.now.are c.requires.0.few in
+    let e = count-short c.args.line.now c.requires.0.few in
     (omega (arith, c.requires.0.some), omega (arith, c.requires.0.few), c.requires.1, c.requires.3)
 
 pub returns-in_err-to : goal.returns-in_err-to

@@ -2,13 +2,13 @@
 use native.Mathlib.Omega.{arith}
 use Rattle.text.specs.Parts.{split}
 use Rattle.std.proofs.lemmas.Result.{err_from_is_err_and}
-use Rattle.cells.proofs.shapes.Shapes.{count-short}
+use Rattle.papers.proofs.Recorded.{count-short}
 use Rattle.cells.proofs.readings.Whole.{not-placed}
 use Rattle.cells.proofs.readings.Stalling.{stalling}
 use Rattle.cells.proofs.readings.stall_of.Goals as goal
 
 pub place_of-requires : goal.place_of-requires
-place_of-requires c = (omega (arith, c.requires.0.long, count-short _ _ c.args.line.now.are (omega (arith, c.requires.0.long))), c.requires.1, c.requires.2, c.requires.3)
+place_of-requires c = (omega (arith, c.requires.0.long, count-short c.args.line.now (omega (arith, c.requires.0.long))), c.requires.1, c.requires.2, c.requires.3)
 
 pub returns-in_err-at : goal.returns-in_err-at
 returns-in_err-at c =

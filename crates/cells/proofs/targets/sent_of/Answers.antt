@@ -13,16 +13,16 @@ loop-j-init c = sending-none _ _
 
 pub returns-in_default : goal.returns-in_default
 returns-in_default c =
-    sending-stops _ _ _ _ c.loop-j.invariant (omega (arith, sent_many _ _ c.args.line.now.are))
+    sending-stops _ _ _ _ c.loop-j.invariant (omega (arith, sent_many c.args.line.now))
     (message-unknown _ _ _ c.messages.ensures.rows c.messages.ensures.many
     (rw (c.field.ensures ∙ sym (get_or-drop 6 (split 9 c.args.line.now.bytes.now) c.loop-j.j [])) at c.in_default.ensures))
 
 pub loop-j-preserved : goal.loop-j-preserved
 loop-j-preserved c =
-    sending-more _ _ _ _ c.loop-j.invariant (omega (arith, sent_many _ _ c.args.line.now.are)) (omega (arith, sent_many _ _ c.args.line.now.are)) _
+    sending-more _ _ _ _ c.loop-j.invariant (omega (arith, sent_many c.args.line.now)) (omega (arith, sent_many c.args.line.now)) _
     (message-known _ _ _ c.messages.ensures.rows c.messages.ensures.many _
     (rw (c.field.ensures ∙ sym (get_or-drop 6 (split 9 c.args.line.now.bytes.now) c.loop-j.j [])) at c.in-Some.ensures))
 
 pub returns : goal.returns
 returns c =
-    sending-all _ _ _ _ c.loop-j.invariant _ (omega (arith, sent_many _ _ c.args.line.now.are)) (omega (arith, sent_many _ _ c.args.line.now.are))
+    sending-all _ _ _ _ c.loop-j.invariant _ (omega (arith, sent_many c.args.line.now)) (omega (arith, sent_many c.args.line.now))

@@ -21,7 +21,7 @@ returns-in_err-map_err c =
 
 pub field-part-requires : goal.field-part-requires
 unfolding event_shape_lem
-field-part-requires c = let w = words-of event _ _ _ c.event_shape-shape.ensures _ c.in_ok-map_err.ensures.cases in omega (arith, event-count _ _ c.args.line.now.are w.0)
+field-part-requires c = let w = words-of event _ _ _ c.event_shape-shape.ensures _ c.in_ok-map_err.ensures.cases in omega (arith, event-count c.args.line.now w.0)
 
 pub returns-in_err-name : goal.returns-in_err-name
 unfolding event_shape_lem

@@ -20,7 +20,7 @@ returns-in_err-kind c =
 
 pub field-part-requires : goal.field-part-requires
 unfolding message_shape_lem
-field-part-requires c = let w = words-of message _ _ _ c.message_shape-shape.ensures _ c.in_ok-kind.ensures.cases in omega (arith, message-count _ _ c.args.line.now.are w.0)
+field-part-requires c = let w = words-of message _ _ _ c.message_shape-shape.ensures _ c.in_ok-kind.ensures.cases in omega (arith, message-count c.args.line.now w.0)
 
 pub returns-in_err-name : goal.returns-in_err-name
 unfolding message_shape_lem

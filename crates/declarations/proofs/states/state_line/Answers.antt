@@ -20,7 +20,7 @@ returns-in_err-controller c =
 
 pub field-part-requires : goal.field-part-requires
 unfolding state_shape_lem
-field-part-requires c = let w = words-of state _ _ _ c.state_shape-shape.ensures _ c.in_ok-controller.ensures.cases in omega (arith, state-count _ _ c.args.line.now.are w.0)
+field-part-requires c = let w = words-of state _ _ _ c.state_shape-shape.ensures _ c.in_ok-controller.ensures.cases in omega (arith, state-count c.args.line.now w.0)
 
 pub returns-in_err-name : goal.returns-in_err-name
 unfolding state_shape_lem

@@ -5,7 +5,7 @@ use Rattle.lines.proofs.shapes.Shaped.{event-right, event-wrong}
 use Rattle.lines.proofs.shapes.event_shape.Goals as goal
 
 pub returns-then-count-ne2 : goal.returns-then-count-ne2
-returns-then-count-ne2 c = event-wrong _ (count-is-not _ _ c.args.line.now.are 2 (omega arith) (λ e. absurd (omega (arith, e))))
+returns-then-count-ne2 c = event-wrong _ (count-is-not c.args.line.now 2 (omega arith) (λ e. absurd (omega (arith, e))))
 
 pub returns : goal.returns
-returns c = event-right _ (count-is _ _ c.args.line.now.are 2 (omega arith) (omega arith))
+returns c = event-right _ (count-is c.args.line.now 2 (omega arith) (omega arith))

@@ -8,7 +8,7 @@ pub returns-then-not-is : goal.returns-then-not-is
 returns-then-not-is c = shape-word _ (sym c.is.ensures ∙ c.if-not-is.true)
 
 pub returns-then-count-ne3 : goal.returns-then-count-ne3
-returns-then-count-ne3 c = shape-length _ (sym c.is.ensures ∙ c.if-not-is.false) (not-three _ _ c.args.line.now.are (λ e. absurd (omega (arith, e))))
+returns-then-count-ne3 c = shape-length _ (sym c.is.ensures ∙ c.if-not-is.false) (not-three c.args.line.now (λ e. absurd (omega (arith, e))))
 
 pub returns : goal.returns
-returns c = shape_is _ (sym c.is.ensures ∙ c.if-not-is.false) (three _ _ c.args.line.now.are (omega arith))
+returns c = shape_is _ (sym c.is.ensures ∙ c.if-not-is.false) (three c.args.line.now (omega arith))

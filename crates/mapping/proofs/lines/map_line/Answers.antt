@@ -19,7 +19,7 @@ written : (c : After-network_of) → c.network_of.result ≡ found_network c.arg
 written c = c.network_of.ensures ∙ ap (found_network c.args.header.most) c.field-2.ensures
 
 pub field-requires : goal.field-requires
-field-requires c = omega (arith, shaped-count _ _ c.args.line.now.are c.requires)
+field-requires c = omega (arith, shaped-count c.args.line.now c.requires)
 
 pub returns-then-not-named : goal.returns-then-not-named
 returns-then-not-named c =
@@ -27,7 +27,7 @@ returns-then-not-named c =
     gives_none _ _ _ _ _ (λ before room. line-unmatched c.args.header.most before _ _ c.requires room c.args.message.now (sym name ∙ c.if-not-named.true) ∙ sym c.at.ensures)
 
 pub field-requires-2 : goal.field-requires-2
-field-requires-2 c = omega (arith, shaped-count _ _ c.args.line.now.are c.requires)
+field-requires-2 c = omega (arith, shaped-count c.args.line.now c.requires)
 
 pub returns-in_default : goal.returns-in_default
 returns-in_default c =

@@ -3,4 +3,4 @@ use Rattle.papers.proofs.Recorded.{some}
 use Rattle.papers.proofs.records.Record.is.Goals as goal
 
 pub says-requires : goal.says-requires
-says-requires c = some c.args.self.now.bytes.now c.args.self.now.fields c.args.self.now.are
+says-requires c = some c.args.self.now
