@@ -16,7 +16,8 @@ use papers::refused::Reason;
 pub const PRINTED: usize = 4096;
 
 // What a program prints: so many bytes at the front.
-// An array and a count, and no Vec: memory is fixed in this repository.
+// An array and a count, and no Vec: memory is fixed in this repository. files::Text is such a type too, but print_plan and print_judgement, which the
+// docs name, are promised by these two fields.
 #[derive(Clone, Copy)]
 pub struct PrintedBytes {
     pub bytes: [u8; PRINTED],

@@ -28,7 +28,7 @@ pub enum Reason {
     Stray,
 }
 
-// The field that a refusal tells, counted from 1; 0 where the whole line or text is meant.
+// The field that a refusal tells, counted from 1; 0 where the whole line or text is meant. So the request says it (C-14), and so it is no Option.
 #[derive(Clone, Copy, PartialEq, Eq)]
 pub struct Field(pub u8);
 
