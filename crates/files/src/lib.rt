@@ -65,14 +65,20 @@ pub struct Text {
 
 impl Text {
     // The bytes that are left of an input.
-    pub fn of_input<R: Read>(input: &mut R) -> Text {
+    pub fn of_input<R: Read>(input: &mut R) -> Text
+        ensures in_bounds { result.count ≤ length result.bytes }
+        ensures same_count { result.count ≡ length (take result.count result.bytes) }
+    {
         let mut bytes = [0; ROOM];
         let count = read_full(input, &mut bytes);
         Text { bytes, count }
     }
 
     // The bytes of a file; none where it cannot be opened.
-    pub fn of_file<F: Files>(files: &F, name: &[u8]) -> Text {
+    pub fn of_file<F: Files>(files: &F, name: &[u8]) -> Text
+        ensures in_bounds { result.count ≤ length result.bytes }
+        ensures same_count { result.count ≡ length (take result.count result.bytes) }
+    {
         let mut bytes = [0; ROOM];
         let count = read_file(files, name, &mut bytes);
         Text { bytes, count }
