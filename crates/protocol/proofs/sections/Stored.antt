@@ -51,7 +51,7 @@ module _ (k : ℕ) (line : List ℕ) (t : Tables) (kept : Kept t) where
       message-room = omega (arith, leb-false 64 t.message_count (passed Message w (m.told t only)).room)
 
       pub message-stored : LineStored message k line t (with_message t row) (Ok tt)
-      message-stored = record { told = m.told t only; stored = (ap (with_message t) m.row, kept-message t kept row message-room) }
+      message-stored = record { told = m.told t only; stored = (ap (with_message t) m.row, kept-message t kept row message-room); unmoved = tt }
 
   -- ---- an event
 
@@ -68,7 +68,7 @@ module _ (k : ℕ) (line : List ℕ) (t : Tables) (kept : Kept t) where
       event-room = omega (arith, leb-false 8 t.event_count (passed Event w (m.told t messages-events)).room)
 
       pub event-stored : LineStored event k line t (with_event t row) (Ok tt)
-      event-stored = record { told = m.told t messages-events; stored = (ap (with_event t) m.row, kept-event t kept row event-room) }
+      event-stored = record { told = m.told t messages-events; stored = (ap (with_event t) m.row, kept-event t kept row event-room); unmoved = tt }
 
   -- ---- a state
 
@@ -84,7 +84,7 @@ module _ (k : ℕ) (line : List ℕ) (t : Tables) (kept : Kept t) where
       state-room = omega (arith, leb-false 64 t.state_count (passed State w (m.told t states)).room)
 
       pub state-stored : LineStored state k line t (with_state t row) (Ok tt)
-      state-stored = record { told = m.told t states; stored = (ap (with_state t) m.row, kept-state t kept row state-room) }
+      state-stored = record { told = m.told t states; stored = (ap (with_state t) m.row, kept-state t kept row state-room); unmoved = tt }
 
   -- ---- a cell
 
@@ -93,4 +93,4 @@ module _ (k : ℕ) (line : List ℕ) (t : Tables) (kept : Kept t) where
     cell_room = omega (arith, leb-false 512 t.cell_count (passed OfCell w m.told).room)
 
     pub cell_stored : LineStored cell k line t (with_cell t row) (Ok tt)
-    cell_stored = record { told = m.told; stored = (ap (with_cell t) m.cell, kept-cell t kept row cell_room (cell-ok k line t row w m)) }
+    cell_stored = record { told = m.told; stored = (ap (with_cell t) m.cell, kept-cell t kept row cell_room (cell-ok k line t row w m)); unmoved = tt }

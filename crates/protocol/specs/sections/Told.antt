@@ -12,10 +12,11 @@ use Rattle.protocol.specs.whole.Kept.{Kept}
 use Rattle.protocol.specs.sections.Lines.{stored_in, read_lines}
 use Rattle.protocol.specs.sections.Sections.{Placed, StageAfter}
 
--- Line k, a record of section s, after t₀: how it is refused, and the tables after it.
+-- Line k, a record of section s, after t₀: how it is refused, and the tables after it. A line that is refused moves nothing.
 pub record LineStored (s : Section) (k : ℕ) (line : List ℕ) (t₀ t : Tables) (r : Result ⊤ Refused) : Type 0 where
   pub told : Refuses t₀ k line (refusal_of r)
   pub stored : IfOk r (λ _. (t ≡ stored_in s t₀ (split 9 line)) × Kept t)
+  pub unmoved : IfErr r (λ _. t ≡ t₀)
 
 -- Section s was read, from a line on to the first that is not of it: what is left to read gives the whole reading.
 pub record Came (s : Section) (text : List ℕ) (from : LineStart) (t₀ : Tables) (to : LineStart) (t : Tables) : Type 0 where
