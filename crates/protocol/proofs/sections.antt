@@ -2,6 +2,6 @@ pub mod Steps
 pub mod Passed
 pub mod Kept
 pub mod Leaving
-pub mod Going
 pub mod Lines
+pub mod Going
 pub mod Stored

@@ -25,8 +25,7 @@ pub fn read_protocol(text: &[u8]) -> Result<Tables, Refused>
     let events = crate::sections::read_section(Section::Message, text, second, &mut t)?;
     let states = crate::sections::read_section(Section::Event, text, events, &mut t)?;
     let cells = crate::sections::read_section(Section::State, text, states, &mut t)?;
-    let rest = crate::sections::read_section(Section::Cell, text, cells, &mut t)?;
-    crate::sections::ended(text, rest, &t)?;
+    crate::sections::read_section(Section::Cell, text, cells, &mut t)?;
     crate::whole::finished(&t)?;
     Ok(t)
 }

@@ -5,8 +5,8 @@ ghost use Rattle.text.specs.Parts.{split};
 ghost use Rattle.lines.specs.Line.{message, event, state, cell, says_of};
 ghost use Rattle.lines.specs.Checks.{later_read};
 ghost use Rattle.protocol.specs.whole.Kept.{Kept};
-ghost use Rattle.protocol.specs.sections.Sections.{section_lem, Placed, Stage, SectionsDone};
-ghost use Rattle.protocol.specs.sections.Told.{LineStored, SectionTold, EndTold};
+ghost use Rattle.protocol.specs.sections.Sections.{section_lem, Placed, Stage};
+ghost use Rattle.protocol.specs.sections.Told.{LineStored, Behind, SectionTold};
 
 use papers::records::Record;
 use papers::refused::Refused;
@@ -106,6 +106,18 @@ fn read_line(section: Section, line: &Record, nth: usize, t: &mut Tables) -> Res
 
 // ---- a section
 
+// The line behind the last one of a section. The next section begins with it; behind the last section no line is left, so one that is there is too late for its
+// section, or of none.
+fn behind(section: Section, line: &Record, here: LineStart) -> Result<LineStart, Refused>
+    requires { says_of (section_lem section) (split 9 line.now.bytes.now) ≡ false }
+    ensures { Behind (section_lem section) line.now.bytes.now here result }
+{
+    match section {
+        Section::Message | Section::Event | Section::State => Ok(here),
+        Section::Cell => Err(lines::misplaced::misplaced(line, here.line)),
+    }
+}
+
 // Reads the lines of a section, and answers where the first line starts that is not of it.
 pub(crate) fn read_section(
     section: Section,
@@ -117,11 +129,11 @@ pub(crate) fn read_section(
     ensures { SectionTold (section_lem section) text.now from t.old t.new result }
 {
     let mut here = from;
-    // a `while`: the place of the next line is found by its search, and asked for behind the loop
+    // a `while`: the place of the next line is found by its search, and answered behind the loop
     while here.at < text.len() {
         let next = lines::next::next_line(text, here.at);
         if !is_of(section, &next.line) {
-            break;
+            return behind(section, &next.line, here);
         }
         read_line(section, &next.line, here.line, t)?;
         here = LineStart {
@@ -130,16 +142,4 @@ pub(crate) fn read_section(
         };
     }
     Ok(here)
-}
-
-// Behind the last section no line is left: one that is there is too late for its section, or of none.
-pub(crate) fn ended(text: &[u8], rest: LineStart, t: &Tables) -> Result<(), Refused>
-    requires { Placed text.now rest.at rest.line × SectionsDone text.now rest.at t.now }
-    ensures { EndTold text.now rest t.now result }
-{
-    if rest.at < text.len() {
-        let next = lines::next::next_line(text, rest.at);
-        return Err(lines::misplaced::misplaced(&next.line, rest.line));
-    }
-    Ok(())
 }

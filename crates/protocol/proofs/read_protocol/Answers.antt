@@ -15,7 +15,7 @@ use Rattle.protocol.specs.whole.Whole.{accepted, unless, whole_refusal}
 use Rattle.protocol.proofs.Protocol.{Begun, not_opened, begun}
 use Rattle.protocol.proofs.sections.Steps.{step_end}
 use Rattle.protocol.proofs.whole.Unless.{unless-refused}
-use Rattle.protocol.proofs.read_protocol.Goals.{After-find, In_ok-events, In_ok-states, In_ok-cells, In_ok-rest, In_ok-ended}
+use Rattle.protocol.proofs.read_protocol.Goals.{After-find, In_ok-events, In_ok-states, In_ok-cells, In_ok-read_section}
 use Rattle.protocol.proofs.read_protocol.Goals as goal
 
 -- the second line starts behind the header
@@ -53,14 +53,11 @@ on-states c = on-events (goal.at.In_ok-states c).In_ok-events ∙ (c.in_ok-state
 on-cells : (c : In_ok-cells) → read_protocol_lem c.args.text.now ≡ read_lines c.in_ok-cells.cells.line (lines (drop c.in_ok-cells.cells.at c.args.text.now)) c.read_section-3.new.t
 on-cells c = on-states (goal.at.In_ok-cells c).In_ok-states ∙ (c.in_ok-cells.ensures).came.on
 
-on-rest : (c : In_ok-rest) → read_protocol_lem c.args.text.now ≡ read_lines c.in_ok-rest.rest.line (lines (drop c.in_ok-rest.rest.at c.args.text.now)) c.read_section-4.new.t
-on-rest c = on-cells (goal.at.In_ok-rest c).In_ok-cells ∙ (c.in_ok-rest.ensures).came.on
-
 -- the text has ended: what is left is to ask for 12 and 13
-on-end : (c : In_ok-ended) → read_protocol_lem c.args.text.now ≡ unless (whole_refusal c.read_section-4.new.t) (accepted c.read_section-4.new.t)
+on-end : (c : In_ok-read_section) → read_protocol_lem c.args.text.now ≡ unless (whole_refusal c.read_section-4.new.t) (accepted c.read_section-4.new.t)
 on-end c =
-    let r = (goal.at.In_ok-ended c).In_ok-rest in
-    on-rest r ∙ step_end c.args.text.now c.in_ok-rest.rest.at c.in_ok-rest.rest.line c.read_section-4.new.t (c.in_ok-ended.ensures).ends
+    let w = (c.in_ok-read_section.ensures).came in
+    on-cells (goal.at.In_ok-read_section c).In_ok-cells ∙ w.on ∙ step_end c.args.text.now c.in_ok-read_section.field-0.at c.in_ok-read_section.field-0.line c.read_section-4.new.t w.stage.1
 
 pub returns-in_err-states : goal.returns-in_err-states
 returns-in_err-states c =
@@ -72,25 +69,20 @@ returns-in_err-cells c =
     let p = err_from_is_err_and c.from_residual-in_err-cells.result c.from_residual-in_err-cells.ensures.1 in
     rw (p.1, p.2) (sym (on-states (goal.at.returns-in_err-cells c).In_ok-states ∙ (c.in_err-cells.ensures).bad))
 
-pub returns-in_err-rest : goal.returns-in_err-rest
-returns-in_err-rest c =
-    let p = err_from_is_err_and c.from_residual-in_err-rest.result c.from_residual-in_err-rest.ensures.1 in
-    rw (p.1, p.2) (sym (on-cells (goal.at.returns-in_err-rest c).In_ok-cells ∙ (c.in_err-rest.ensures).bad))
-
-pub returns-in_err-ended : goal.returns-in_err-ended
-returns-in_err-ended c =
-    let p = err_from_is_err_and c.from_residual-in_err-ended.result c.from_residual-in_err-ended.ensures.1 in
-    rw (p.1, p.2) (sym (on-rest (goal.at.returns-in_err-ended c).In_ok-rest ∙ (c.in_err-ended.ensures).bad))
+pub returns-in_err-read_section : goal.returns-in_err-read_section
+returns-in_err-read_section c =
+    let p = err_from_is_err_and c.from_residual-in_err-read_section.result c.from_residual-in_err-read_section.ensures.1 in
+    rw (p.1, p.2) (sym (on-cells (goal.at.returns-in_err-read_section c).In_ok-cells ∙ (c.in_err-read_section.ensures).bad))
 
 pub returns-in_err-finished : goal.returns-in_err-finished
 returns-in_err-finished c =
     let e = c.in_err-finished.field-0.0 in
     let t = c.read_section-4.new.t in
     let p = err_from_is_err_and c.from_residual-in_err-finished.result c.from_residual-in_err-finished.ensures.1 in
-    rw (p.1, p.2) (sym (on-end (goal.at.returns-in_err-finished c).In_ok-ended
+    rw (p.1, p.2) (sym (on-end (goal.at.returns-in_err-finished c).In_ok-read_section
     ∙ ap (λ (r : Refusal). unless r (accepted t)) (sym c.in_err-finished.ensures) ∙ unless-refused (told_refusal e) (accepted t) (told-some e)))
 
 pub returns : goal.returns
 returns c =
     let t = c.read_section-4.new.t in
-    sym (on-end (goal.at.returns c).In_ok-ended ∙ ap (λ (r : Refusal). unless r (accepted t)) (sym c.in_ok-finished.ensures))
+    sym (on-end (goal.at.returns c).In_ok-read_section ∙ ap (λ (r : Refusal). unless r (accepted t)) (sym c.in_ok-finished.ensures))

@@ -1,5 +1,5 @@
 -- A section's loop: what holds whenever its test is reached, and how each line carries it on.
-use Prim.Native.Nat.{ℕ, ◌+◌, ◌<◌}
+use Prim.Native.Nat.{ℕ, ◌+◌, ◌≤◌, ◌<◌}
 use mathlib.Core.Path.{◌≡◌, refl, sym, ap, subst, ◌∙◌}
 use mathlib.Core.List.{List}
 use native.Mathlib.Omega.{arith}
@@ -13,20 +13,23 @@ use Rattle.tables.specs.Tables.{with_message, with_event, with_state, with_cell}
 use Rattle.protocol.specs.whole.Whole.{refused}
 use Rattle.protocol.specs.sections.Lines.{stored_in, read_lines}
 use Rattle.protocol.specs.whole.Kept.{Kept}
-use Rattle.protocol.specs.sections.Sections.{Placed, line_at, section_at, Stage, section_lem}
+use Rattle.protocol.specs.sections.Sections.{Placed, line_at, section_at, Stage, StageAfter, SectionsDone, section_lem}
 use Rattle.protocol.proofs.sections.Steps.{step-on, step-bad}
-use Rattle.std.specs.Prelude.{Ok}
+use Rattle.std.specs.Prelude.{Result, Ok, Err}
 use Rattle.text.specs.Line.{Line}
 use Rattle.papers.specs.Checks.{none}
-use Rattle.lines.specs.Line.{Section, section_of, says_of}
+use Rattle.papers.specs.declared.refused.Refused.{Refused}
+use Rattle.papers.specs.refused.Refused.{told_refusal}
+use Rattle.lines.specs.Line.{Section, cell, section_of, says_of}
 use Rattle.lines.specs.Told.{Refuses}
 use Rattle.lines.proofs.Sections.{a-message, an-event, a-state, a-cell}
 use Rattle.protocol.specs.declared.sections.Section.{Section as CodeSection}
 use Rattle.protocol.specs.declared.sections.Section.TheVariants.{Message, Event, State, Cell}
 use Rattle.protocol.specs.declared.sections.LineStart.{LineStart}
-use Rattle.protocol.specs.sections.Told.{LineStored, Came}
-use Rattle.protocol.proofs.sections.Leaving.{Leaves, leave}
-use mathlib.Core.Bool.{true}
+use Rattle.protocol.specs.sections.Told.{LineStored, Came, SectionTold, Behind}
+use Rattle.protocol.proofs.sections.Leaving.{leave, leave-at-end, at-end}
+use Rattle.protocol.proofs.sections.Lines.{not-of, misplaced-bad}
+use mathlib.Core.Bool.{true, false}
 
 -- From line `from-line` at the place `from`, with t₀, the reading came to line `line` at the place `at`, with t, and is in section s.
 pub record Going (s : Section) (text : List ℕ) (from from-line : ℕ) (t₀ : Tables) (at line : ℕ) (t : Tables) : Type 0 where
@@ -92,7 +95,31 @@ going-on c text from from-line t₀ at line t u g h w r =
       stage = subst (Stage s text (place 10 text at (length text) + 1)) (sym r.stored.0) (stage-on c text at (place 10 text at (length text) + 1) t f g.stage);
     }
 
--- the section is left, at a line of another one or at the end of the text
+-- the section is left at the end of the text
 pub going-out : (c : CodeSection) (text : List ℕ) (from : LineStart) (t₀ : Tables) (at line : ℕ) (t : Tables)
-    → Going (section_lem c) text from.at from.line t₀ at line t → Leaves (section_lem c) text at → Came (section_lem c) text from t₀ (record { at = at; line = line }) t
-going-out c text from t₀ at line t g f = record { on = g.on; kept = g.kept; placed = g.placed; stage = leave c text at t g.stage f }
+    → Going (section_lem c) text from.at from.line t₀ at line t → length text ≤ at → Came (section_lem c) text from t₀ (record { at = at; line = line }) t
+going-out c text from t₀ at line t g h =
+    record { on = g.on; kept = g.kept; placed = g.placed; stage = leave-at-end c text at t h (leave c text at t g.stage (at-end (section_lem c) text at h)) }
+
+-- the section is left at a line that is not of it: the next section begins there, or the line is refused
+module _ (text : List ℕ) (from : LineStart) (t₀ : Tables) (at line : ℕ) (t : Tables) (h : at < length text) where
+  abbrev pub here : LineStart
+  here = record { at = at; line = line }
+
+  next-begins : (c : CodeSection) → Going (section_lem c) text from.at from.line t₀ at line t → StageAfter (section_lem c) text at t → (r : Result LineStart Refused) → r ≡ Ok here
+      → SectionTold (section_lem c) text from t₀ t r
+  next-begins c g s r e =
+      subst (SectionTold (section_lem c) text from t₀ t) (sym e)
+      (record { came = record { on = g.on; kept = g.kept; placed = g.placed; stage = s }; bad = tt })
+
+  none-behind : Going cell text from.at from.line t₀ at line t → SectionsDone text at t → (r : Result LineStart Refused) → Behind cell (line_at text at) here r
+      → SectionTold cell text from t₀ t r
+  none-behind g d (Ok to) b = absurd b
+  none-behind g d (Err e) b = record { came = tt; bad = g.on ∙ misplaced-bad text at line t g.placed d h (told_refusal e) b }
+
+  pub going-behind : (c : CodeSection) → Going (section_lem c) text from.at from.line t₀ at line t → says_of (section_lem c) (split 9 (line_at text at)) ≡ false
+      → (r : Result LineStart Refused) → Behind (section_lem c) (line_at text at) here r → SectionTold (section_lem c) text from t₀ t r
+  going-behind Message g w r b = next-begins Message g (leave Message text at t g.stage (not-of Message text at w)) r b
+  going-behind Event g w r b = next-begins Event g (leave Event text at t g.stage (not-of Event text at w)) r b
+  going-behind State g w r b = next-begins State g (leave State text at t g.stage (not-of State text at w)) r b
+  going-behind Cell g w r b = none-behind g (leave Cell text at t g.stage (not-of Cell text at w)) r b

@@ -1,4 +1,4 @@
--- Leaving a section's loop: at a line of another section, or at the end of the text.
+-- Leaving a section's loop: at a line that is not of the section, or at the end of the text.
 use Prim.Native.Nat.{ℕ, ◌+◌, ◌≤◌, ◌<◌}
 use mathlib.Core.Path.{◌≡◌, refl}
 use mathlib.Core.Bool.{false}
@@ -11,7 +11,7 @@ use Rattle.protocol.specs.declared.sections.Section.{Section as CodeSection}
 use Rattle.protocol.specs.declared.sections.Section.TheVariants.{Message, Event, State, Cell}
 use Rattle.lines.specs.Checks.{later_read}
 use Rattle.lines.specs.Line.{Section, message, event, state, cell}
-use Rattle.protocol.specs.sections.Sections.{section_at, TooLate, Stage, StageAfter, section_lem}
+use Rattle.protocol.specs.sections.Sections.{section_at, TooLate, Stage, StageAfter, SectionsDone, section_lem}
 
 -- The next line is not of this section, or there is none.
 abbrev pub Leaves : Section → List ℕ → ℕ → Type 0
@@ -23,11 +23,25 @@ at-end s text at h k e = omega arith
 too-late : (text : List ℕ) (at : ℕ) (t : Tables) (s : Section) → Leaves s text at → TooLate s text at t
 too-late text at t s f h e = absurd (f h e)
 
-pub leave : (c : CodeSection) (text : List ℕ) (at : ℕ) (t : Tables) → Stage (section_lem c) text at t → Leaves (section_lem c) text at → StageAfter (section_lem c) text at t
+-- what is known at a line of another section: the next section begins with it, or the last one is done
+abbrev pub Left : CodeSection → List ℕ → ℕ → Tables → Type 0
+Left Message text at t = Stage event text at t
+Left Event text at t = Stage state text at t
+Left State text at t = Stage cell text at t
+Left Cell text at t = SectionsDone text at t
+
+pub leave : (c : CodeSection) (text : List ℕ) (at : ℕ) (t : Tables) → Stage (section_lem c) text at t → Leaves (section_lem c) text at → Left c text at t
 leave Message text at t p f = (p.1, p.2, too-late text at t message f)
 leave Event text at t p f = (p.1, p.2, too-late text at t event f)
 leave State text at t p f = (p.1, p.2, too-late text at t state f)
 leave Cell text at t p f = (p.0, p.1, p.2, too-late text at t cell f)
+
+-- at the end of the text every section is done
+pub leave-at-end : (c : CodeSection) (text : List ℕ) (at : ℕ) (t : Tables) → length text ≤ at → Left c text at t → StageAfter (section_lem c) text at t
+leave-at-end Message text at t h l = l
+leave-at-end Event text at t h l = l
+leave-at-end State text at t h l = l
+leave-at-end Cell text at t h l = (l, h)
 
 -- no later section was read
 pub no-later : (c : CodeSection) (text : List ℕ) (at : ℕ) (t : Tables) → Stage (section_lem c) text at t → later_read (section_lem c) t ≡ false

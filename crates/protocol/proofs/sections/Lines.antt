@@ -1,13 +1,11 @@
 -- The next line of a text, as the code tells of it.
 use Prim.Native.Nat.{ℕ, ◌+◌, ◌≤◌, ◌<◌}
 use mathlib.Core.Path.{◌≡◌, refl, ap, ◌∙◌}
-use mathlib.Core.Bool.{Bool, true, false}
+use mathlib.Core.Bool.{true, false}
 use mathlib.Core.List.{List}
 use native.Mathlib.Omega.{arith}
 use lib.ListN.{length, drop}
 use Rattle.text.specs.Parts.{part, split, lines}
-use Rattle.text.specs.Words.{cell_word}
-use Rattle.text.specs.Line.{says}
 use Rattle.papers.specs.declared.Refusal.{Refusal}
 use Rattle.papers.proofs.Walk.{walk-next}
 use Rattle.tables.specs.declared.Tables.{Tables}
@@ -17,7 +15,7 @@ use Rattle.lines.specs.Checks.{later_read}
 use Rattle.lines.specs.declared.next.NextLine.{NextLine}
 use Rattle.lines.specs.next.Next.{Next}
 use Rattle.lines.specs.misplaced.Place.{Misplaced}
-use Rattle.lines.proofs.Sections.{a-cell, not_in}
+use Rattle.lines.proofs.Sections.{not_in}
 use Rattle.protocol.specs.declared.sections.Section.{Section as CodeSection}
 use Rattle.protocol.specs.whole.Whole.{refused}
 use Rattle.protocol.specs.sections.Lines.{read_lines}
@@ -54,14 +52,6 @@ module _ (text : List ℕ) (at line : ℕ) (t : Tables) (p : Placed text at line
     where
       not-true : false ≡ true → ⊥
       not-true q = let z : ◌≡◌ {A = ℕ} 0 1 = cc in omega arith
-
-  -- it is no cell
-  pub no-cell_word : says (split 9 (line_at text at)) 0 cell_word ≡ false
-  no-cell_word = go (says (split 9 (line_at text at)) 0 cell_word) refl
-    where
-      go : (b : Bool) → says (split 9 (line_at text at)) 0 cell_word ≡ b → says (split 9 (line_at text at)) 0 cell_word ≡ false
-      go true e = absurd (no-cell (a-cell (split 9 (line_at text at)) e))
-      go false e = e
 
   -- it is too late, or of no section
   module _ (why : Refusal) (m : Misplaced line (line_at text at) why) where

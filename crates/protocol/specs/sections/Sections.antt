@@ -37,12 +37,12 @@ Stage unknown text at t = length text ≤ at
 abbrev pub SectionsDone : List ℕ → ℕ → Tables → Type 0
 SectionsDone text at t = TooLate message text at t × TooLate event text at t × TooLate state text at t × TooLate cell text at t
 
--- A section was read to its end: the next one begins.
+-- A section was read to its end: the next one begins; behind the last one the text has ended.
 abbrev pub StageAfter : Section → List ℕ → ℕ → Tables → Type 0
 StageAfter message text at t = Stage event text at t
 StageAfter event text at t = Stage state text at t
 StageAfter state text at t = Stage cell text at t
-StageAfter cell text at t = SectionsDone text at t
+StageAfter cell text at t = SectionsDone text at t × (length text ≤ at)
 StageAfter unknown text at t = Stage unknown text at t
 
 -- ---- the code's sections

@@ -1,11 +1,12 @@
--- What is told of the lines of a protocol text as they are read: of one line, of a section, and of what follows the last one.
-use Rattle.std.specs.Prelude.{ℕ, ◌≡◌, ◌≤◌, List, length, drop, Result, IfOk, IfErr, ⊤}
+-- What is told of the lines of a protocol text as they are read: of one line, of a section, and of the line behind a section.
+use Rattle.std.specs.Prelude.{ℕ, ◌≡◌, List, drop, Result, Ok, IfOk, IfErr, MatchResult, ⊤}
 use Rattle.text.specs.Parts.{lines, split}
 use Rattle.papers.specs.declared.refused.Refused.{Refused}
 use Rattle.papers.specs.refused.Refused.{told_refusal, refusal_of}
 use Rattle.tables.specs.declared.Tables.{Tables}
-use Rattle.lines.specs.Line.{Section}
+use Rattle.lines.specs.Line.{Section, message, event, state, cell, unknown}
 use Rattle.lines.specs.Told.{Refuses}
+use Rattle.lines.specs.misplaced.Place.{Misplaced}
 use Rattle.protocol.specs.declared.sections.LineStart.{LineStart}
 use Rattle.protocol.specs.whole.Whole.{refused}
 use Rattle.protocol.specs.whole.Kept.{Kept}
@@ -33,7 +34,10 @@ pub record SectionTold (s : Section) (text : List ℕ) (from : LineStart) (t₀ 
   pub came : IfOk r (λ to. Came s text from t₀ to t)
   pub bad : IfErr r (ReadingRefused text from t₀)
 
--- Behind the last section the text has ended, or its next line is refused.
-pub record EndTold (text : List ℕ) (rest : LineStart) (t : Tables) (r : Result ⊤ Refused) : Type 0 where
-  pub ends : IfOk r (λ _. length text ≤ rest.at)
-  pub bad : IfErr r (ReadingRefused text rest t)
+-- The line behind the last one of section s, to which the reading has come: the next section begins with it, but behind the last section it is refused.
+abbrev pub Behind : Section → List ℕ → LineStart → Result LineStart Refused → Type 0
+Behind message line here r = r ≡ Ok here
+Behind event line here r = r ≡ Ok here
+Behind state line here r = r ≡ Ok here
+Behind cell line here r = MatchResult r (λ _. ⊥) (λ e. Misplaced here.line line (told_refusal e))
+Behind unknown line here r = r ≡ Ok here

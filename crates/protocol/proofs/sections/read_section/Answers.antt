@@ -12,10 +12,10 @@ use Rattle.papers.proofs.Refusals.{told-some}
 use Rattle.lines.specs.Line.{says_of}
 use Rattle.lines.specs.Told.{Refuses}
 use Rattle.protocol.specs.sections.Sections.{section_lem, line_at}
-use Rattle.protocol.specs.sections.Told.{LineStored}
-use Rattle.protocol.proofs.sections.Going.{Going, going-bad, going-on, going-out}
-use Rattle.protocol.proofs.sections.Leaving.{at-end, no-later}
-use Rattle.protocol.proofs.sections.Lines.{Room, room, the-line, not-of}
+use Rattle.protocol.specs.sections.Told.{LineStored, Behind}
+use Rattle.protocol.proofs.sections.Going.{Going, going-bad, going-on, going-out, going-behind}
+use Rattle.protocol.proofs.sections.Leaving.{no-later}
+use Rattle.protocol.proofs.sections.Lines.{Room, room, the-line}
 use Rattle.protocol.proofs.sections.read_section.Goals.{After-next_line-next}
 use Rattle.protocol.proofs.sections.read_section.Goals as goal
 
@@ -74,23 +74,26 @@ loop-here-preserved c =
     subst (λ (k : ℕ). Going s a.text.now a.from.at a.from.line a.t.now (k + 1) (l.here.line + 1) c.read_line.new.t) (sym n.ensures.ends)
     (going-on a.section a.text.now a.from.at a.from.line a.t.now l.here.at l.here.line l.t c.read_line.new.t l.invariant c.loop-here-test.true word told)
 
+pub behind-requires : goal.behind-requires
+behind-requires c = sym c.is_of.ensures ∙ c.if-not-is_of.true
+
 pub returns-then-not-is_of : goal.returns-then-not-is_of
 returns-then-not-is_of c =
     let a = c.args in
     let l = c.loop-here in
     let n = c.next_line-next in
-    let word : says_of (section_lem a.section) (split 9 (line_at a.text.now l.here.at)) ≡ false =
-    subst (λ (b : List ℕ). says_of (section_lem a.section) (split 9 b) ≡ false) (the-line a.text.now l.here.at n.result n.ensures) (sym c.is_of.ensures ∙ c.if-not-is_of.true) in
-    record {
-      came = going-out a.section a.text.now a.from a.t.now l.here.at l.here.line l.t l.invariant (not-of a.section a.text.now l.here.at word);
-      bad = tt;
-    }
+    let s = section_lem a.section in
+    let same = the-line a.text.now l.here.at n.result n.ensures in
+    let word : says_of s (split 9 (line_at a.text.now l.here.at)) ≡ false =
+    subst (λ (b : List ℕ). says_of s (split 9 b) ≡ false) same (sym c.is_of.ensures ∙ c.if-not-is_of.true) in
+    going-behind a.text.now a.from a.t.now l.here.at l.here.line l.t c.loop-here-test.true a.section l.invariant word c.behind.result
+    (subst (λ (b : List ℕ). Behind s b l.here c.behind.result) same c.behind.ensures)
 
-pub returns-after-loop-here : goal.returns-after-loop-here
-returns-after-loop-here c =
+pub returns : goal.returns
+returns c =
     let a = c.args in
     let l = c.loop-here in
     record {
-      came = going-out a.section a.text.now a.from a.t.now l.here.at l.here.line l.t l.invariant (at-end (section_lem a.section) a.text.now l.here.at c.loop-here-test.false);
+      came = going-out a.section a.text.now a.from a.t.now l.here.at l.here.line l.t l.invariant (omega (arith, c.loop-here-test.false));
       bad = tt;
     }
