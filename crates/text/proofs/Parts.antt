@@ -6,12 +6,11 @@ use Prim.Native.Nat.{ℕ, zero, suc, ◌+◌, ◌-◌, ◌≤◌, ◌<◌}
 use native.Mathlib.Omega.{arith}
 use native.Mathlib.Numerals.{add-one}
 use native.Mathlib.Nat.{add-zero}
-use lib.ListN.{length, take, drop, get_or, length-take, length-drop}
+use lib.ListN.{length, take, drop, get_or, length-take, length-drop, drop_of_length-le}
 use lib.Seq.{drop-cons, get_or-take, get_or-drop}
 use lib.Dec.{eqb}
 use borrow.Author.Tests.{eqb-true, eqb-false, eq-eqb, ne_eqb}
 use Rattle.std.specs.Cmp.Lexicographic.{pointwise}
-use Rattle.std.specs.List.{filter}
 use Rattle.text.specs.Parts.{part, is_same_text, first_index, is, place, how_many}
 
 -- ---- the same text
@@ -176,16 +175,22 @@ module _ (b : ℕ) (text : List ℕ) where
 -- ---- how many there are
 
 module _ (b : ℕ) where
-  -- those that are b, taken out of the text
-  pub many-filtered : (l : List ℕ) → length (filter (is b) l) ≡ how_many b l
+  -- from a place on
+  pub many-next : (text : List ℕ) (i : ℕ) → i < length text → get_or text i 0 ≡ b → how_many b (drop i text) ≡ suc (how_many b (drop (i + 1) text))
   unfolding how_many
-  many-filtered [] = refl
-  many-filtered (x ∷ l) = go (eqb x b) refl (many-filtered l)
-    where
-      go : (t : Bool) → eqb x b ≡ t → length (filter (is b) l) ≡ how_many b l
-          → length (cond (eqb x b) (x ∷ filter (is b) l) (filter (is b) l)) ≡ cond (eqb x b) (suc (how_many b l)) (how_many b l)
-      go true e h = rw e (ap suc h)
-      go false e h = rw e h
+  many-next text i h e =
+      rw add-one (ap (how_many b) (drop-cons text i 0 h)
+      ∙ ap (λ (t : Bool). cond t (suc (how_many b (drop (suc i) text))) (how_many b (drop (suc i) text))) (eq-eqb (get_or text i 0) b e))
+
+  pub many-other : (text : List ℕ) (i : ℕ) → i < length text → (get_or text i 0 ≡ b → ⊥) → how_many b (drop i text) ≡ how_many b (drop (i + 1) text)
+  unfolding how_many
+  many-other text i h e =
+      rw add-one (ap (how_many b) (drop-cons text i 0 h)
+      ∙ ap (λ (t : Bool). cond t (suc (how_many b (drop (suc i) text))) (how_many b (drop (suc i) text))) (ne_eqb (get_or text i 0) b e))
+
+  pub many-end : (text : List ℕ) (i : ℕ) → length text ≤ i → how_many b (drop i text) ≡ 0
+  unfolding how_many
+  many-end text i h = ap (how_many b) (drop_of_length-le text {i = i} h)
 
   pub many-le : (l : List ℕ) → how_many b l ≤ length l
   unfolding how_many

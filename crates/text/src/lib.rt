@@ -57,11 +57,17 @@ pub fn find(text: &[u8], b: u8, from: usize, to: usize) -> usize
     to
 }
 
-// How many bytes of the text are b.
+// How many bytes of the text are b. A `for`: `filter` and `count` take twice the time.
 pub fn count(text: &[u8], b: u8) -> usize
     ensures { result ≡ how_many b text.now }
 {
-    text.iter().filter(|byte| **byte == b).count()
+    let mut n = 0;
+    for byte in text {
+        if *byte == b {
+            n += 1;
+        }
+    }
+    n
 }
 
 // The text at the front of out.
