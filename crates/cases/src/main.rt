@@ -221,9 +221,11 @@ fn judge_item(
             print_tables(rt, &t)?;
             mapping_item(rt, input, mapping, &t)
         }
+        // the refusal first: who sends the items may wait for it before the mapping comes
         Err(why) => {
+            print_refusal(rt, why, Paper::Protocol)?;
             pass_over(input, mapping);
-            print_refusal(rt, why, Paper::Protocol)
+            Ok(())
         }
     }
 }
