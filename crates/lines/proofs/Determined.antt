@@ -5,6 +5,9 @@ use mathlib.Core.Bool.{true, false}
 use mathlib.Core.List.{List, []}
 use Rattle.std.specs.Prelude.{Option, Result, ⊤}
 use Rattle.papers.specs.declared.refused.Field.{Field}
+use Rattle.papers.specs.declared.refused.Refused.{Refused}
+use Rattle.papers.specs.refused.Refused.{told_refusal}
+use Rattle.papers.proofs.Refusals.{told-injective}
 use Rattle.tables.specs.declared.Kind.{Kind}
 use Rattle.tables.specs.declared.Controller.{Controller}
 use Rattle.tables.specs.declared.Stability.{Stability}
@@ -62,3 +65,7 @@ misplaced-determined k line w r s p q = go (section_of (split 9 line)) refl
     go state e = late (ap (λ (y : Section). later_read y t) e)
     go cell e = absurd (not_in cell (split 9 line) w e)
     go unknown e = sym (p.no_section e t) ∙ q.no_section e t
+
+-- so is the refusal itself, by its reason: what is told of it leaves one
+pub misplaced-result-determined : (k : ℕ) (line : List ℕ) → says (split 9 line) 0 cell_word ≡ false → Determines (λ (r : Refused). Misplaced k line (told_refusal r))
+misplaced-result-determined k line w r s p q = told-injective r s (misplaced-determined k line w (told_refusal r) (told_refusal s) p q)
