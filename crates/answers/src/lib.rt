@@ -49,7 +49,7 @@ pub struct Answer {
 }
 
 // A refusal of a paper.
-fn refused(why: Refusal, paper: u8) -> Answer
+pub fn refused(why: Refusal, paper: u8) -> Answer
     ensures { result ≡ refused_at_lem why paper }
 {
     Answer {
@@ -61,7 +61,7 @@ fn refused(why: Refusal, paper: u8) -> Answer
 }
 
 // Refusal 16: the listing is longer than the lent output.
-fn no_room(needed: usize) -> Answer
+pub fn no_room(needed: usize) -> Answer
     ensures { result ≡ no_room_lem needed }
 {
     Answer {
@@ -77,7 +77,7 @@ fn no_room(needed: usize) -> Answer
 }
 
 // The listing stands at the front of the output.
-fn listed(length: usize) -> Answer
+pub fn listed(length: usize) -> Answer
     ensures { result ≡ finished length }
 {
     Answer {
