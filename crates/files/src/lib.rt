@@ -64,24 +64,32 @@ pub struct Text {
 }
 
 impl Text {
-    // The bytes that are left of an input.
+    // The bytes that are left of an input. Within its caller it hands the room on once less.
+    #[inline(always)]
     pub fn of_input<R: Read>(input: &mut R) -> Text
         ensures in_bounds { result.count ≤ length result.bytes }
         ensures same_count { result.count ≡ length (take result.count result.bytes) }
     {
-        let mut bytes = [0; ROOM];
-        let count = read_full(input, &mut bytes);
-        Text { bytes, count }
+        let mut text = Text {
+            bytes: [0; ROOM],
+            count: 0,
+        };
+        text.count = read_full(input, &mut text.bytes);
+        text
     }
 
-    // The bytes of a file; none where it cannot be opened.
+    // The bytes of a file; none where it cannot be opened. Within its caller, as of_input.
+    #[inline(always)]
     pub fn of_file<F: Files>(files: &F, name: &[u8]) -> Text
         ensures in_bounds { result.count ≤ length result.bytes }
         ensures same_count { result.count ≡ length (take result.count result.bytes) }
     {
-        let mut bytes = [0; ROOM];
-        let count = read_file(files, name, &mut bytes);
-        Text { bytes, count }
+        let mut text = Text {
+            bytes: [0; ROOM],
+            count: 0,
+        };
+        text.count = read_file(files, name, &mut text.bytes);
+        text
     }
 
     // The text itself.
