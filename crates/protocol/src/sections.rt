@@ -6,7 +6,7 @@ ghost use Rattle.lines.specs.Line.{message, event, state, cell, says_of};
 ghost use Rattle.lines.specs.Checks.{later_read};
 ghost use Rattle.protocol.specs.whole.Kept.{Kept};
 ghost use Rattle.protocol.specs.sections.Sections.{section_lem, Placed, Stage};
-ghost use Rattle.protocol.specs.sections.Told.{LineStored, Behind, SectionTold};
+ghost use Rattle.protocol.specs.sections.Told.{LineStored, LineBehind, SectionTold};
 
 use papers::records::Record;
 use papers::refused::Refused;
@@ -110,7 +110,7 @@ fn read_line(section: Section, line: &Record, nth: usize, t: &mut Tables) -> Res
 // section, or of none.
 fn behind(section: Section, line: &Record, here: LineStart) -> Result<LineStart, Refused>
     requires { says_of (section_lem section) (split 9 line.now.bytes.now) ≡ false }
-    ensures { Behind (section_lem section) line.now.bytes.now here result }
+    ensures { LineBehind (section_lem section) line.now.bytes.now here result }
 {
     match section {
         Section::Message | Section::Event | Section::State => Ok(here),
@@ -118,7 +118,7 @@ fn behind(section: Section, line: &Record, here: LineStart) -> Result<LineStart,
     }
 }
 
-// Reads the lines of a section, and answers where the first line starts that is not of it.
+// Reads the lines of a section, and answers where the first line starts that is not of it. Behind the last section such a line is refused (`behind`).
 pub(crate) fn read_section(
     section: Section,
     text: &[u8],

@@ -26,7 +26,7 @@ use Rattle.lines.proofs.Sections.{a-message, an-event, a-state, a-cell}
 use Rattle.protocol.specs.declared.sections.Section.{Section as CodeSection}
 use Rattle.protocol.specs.declared.sections.Section.TheVariants.{Message, Event, State, Cell}
 use Rattle.protocol.specs.declared.sections.LineStart.{LineStart}
-use Rattle.protocol.specs.sections.Told.{LineStored, Came, SectionTold, Behind}
+use Rattle.protocol.specs.sections.Told.{LineStored, Came, SectionTold, LineBehind}
 use Rattle.protocol.proofs.sections.Leaving.{leave, leave-at-end, at-end}
 use Rattle.protocol.proofs.sections.Lines.{not-of, misplaced-bad}
 use mathlib.Core.Bool.{true, false}
@@ -112,13 +112,13 @@ module _ (text : List ℕ) (from : LineStart) (t₀ : Tables) (at line : ℕ) (t
       subst (SectionTold (section_lem c) text from t₀ t) (sym e)
       (record { came = record { on = g.on; kept = g.kept; placed = g.placed; stage = s }; bad = tt })
 
-  none-behind : Going cell text from.at from.line t₀ at line t → SectionsDone text at t → (r : Result LineStart Refused) → Behind cell (line_at text at) here r
+  none-behind : Going cell text from.at from.line t₀ at line t → SectionsDone text at t → (r : Result LineStart Refused) → LineBehind cell (line_at text at) here r
       → SectionTold cell text from t₀ t r
   none-behind g d (Ok to) b = absurd b
   none-behind g d (Err e) b = record { came = tt; bad = g.on ∙ misplaced-bad text at line t g.placed d h (told_refusal e) b }
 
   pub going-behind : (c : CodeSection) → Going (section_lem c) text from.at from.line t₀ at line t → says_of (section_lem c) (split 9 (line_at text at)) ≡ false
-      → (r : Result LineStart Refused) → Behind (section_lem c) (line_at text at) here r → SectionTold (section_lem c) text from t₀ t r
+      → (r : Result LineStart Refused) → LineBehind (section_lem c) (line_at text at) here r → SectionTold (section_lem c) text from t₀ t r
   going-behind Message g w r b = next-begins Message g (leave Message text at t g.stage (not-of Message text at w)) r b
   going-behind Event g w r b = next-begins Event g (leave Event text at t g.stage (not-of Event text at w)) r b
   going-behind State g w r b = next-begins State g (leave State text at t g.stage (not-of State text at w)) r b

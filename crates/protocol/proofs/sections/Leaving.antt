@@ -24,20 +24,20 @@ too-late : (text : List ℕ) (at : ℕ) (t : Tables) (s : Section) → Leaves s 
 too-late text at t s f h e = absurd (f h e)
 
 -- what is known at a line of another section: the next section begins with it, or the last one is done
-abbrev pub Left : CodeSection → List ℕ → ℕ → Tables → Type 0
-Left Message text at t = Stage event text at t
-Left Event text at t = Stage state text at t
-Left State text at t = Stage cell text at t
-Left Cell text at t = SectionsDone text at t
+abbrev pub SectionLeft : CodeSection → List ℕ → ℕ → Tables → Type 0
+SectionLeft Message text at t = Stage event text at t
+SectionLeft Event text at t = Stage state text at t
+SectionLeft State text at t = Stage cell text at t
+SectionLeft Cell text at t = SectionsDone text at t
 
-pub leave : (c : CodeSection) (text : List ℕ) (at : ℕ) (t : Tables) → Stage (section_lem c) text at t → Leaves (section_lem c) text at → Left c text at t
+pub leave : (c : CodeSection) (text : List ℕ) (at : ℕ) (t : Tables) → Stage (section_lem c) text at t → Leaves (section_lem c) text at → SectionLeft c text at t
 leave Message text at t p f = (p.1, p.2, too-late text at t message f)
 leave Event text at t p f = (p.1, p.2, too-late text at t event f)
 leave State text at t p f = (p.1, p.2, too-late text at t state f)
 leave Cell text at t p f = (p.0, p.1, p.2, too-late text at t cell f)
 
 -- at the end of the text every section is done
-pub leave-at-end : (c : CodeSection) (text : List ℕ) (at : ℕ) (t : Tables) → length text ≤ at → Left c text at t → StageAfter (section_lem c) text at t
+pub leave-at-end : (c : CodeSection) (text : List ℕ) (at : ℕ) (t : Tables) → length text ≤ at → SectionLeft c text at t → StageAfter (section_lem c) text at t
 leave-at-end Message text at t h l = l
 leave-at-end Event text at t h l = l
 leave-at-end State text at t h l = l

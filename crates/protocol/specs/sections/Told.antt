@@ -35,9 +35,9 @@ pub record SectionTold (s : Section) (text : List ℕ) (from : LineStart) (t₀ 
   pub bad : IfErr r (ReadingRefused text from t₀)
 
 -- The line behind the last one of section s, to which the reading has come: the next section begins with it, but behind the last section it is refused.
-abbrev pub Behind : Section → List ℕ → LineStart → Result LineStart Refused → Type 0
-Behind message line here r = r ≡ Ok here
-Behind event line here r = r ≡ Ok here
-Behind state line here r = r ≡ Ok here
-Behind cell line here r = MatchResult r (λ _. ⊥) (λ e. Misplaced here.line line (told_refusal e))
-Behind unknown line here r = r ≡ Ok here
+abbrev pub LineBehind : Section → List ℕ → LineStart → Result LineStart Refused → Type 0
+LineBehind message line here r = r ≡ Ok here
+LineBehind event line here r = r ≡ Ok here
+LineBehind state line here r = r ≡ Ok here
+LineBehind cell line here r = MatchResult r (λ _. ⊥) (λ e. Misplaced here.line line (told_refusal e))
+LineBehind unknown line here r = r ≡ Ok here

@@ -12,7 +12,7 @@ use Rattle.papers.proofs.Refusals.{told-some}
 use Rattle.lines.specs.Line.{says_of}
 use Rattle.lines.specs.Told.{Refuses}
 use Rattle.protocol.specs.sections.Sections.{section_lem, line_at}
-use Rattle.protocol.specs.sections.Told.{LineStored, Behind}
+use Rattle.protocol.specs.sections.Told.{LineStored, LineBehind}
 use Rattle.protocol.proofs.sections.Going.{Going, going-bad, going-on, going-out, going-behind}
 use Rattle.protocol.proofs.sections.Leaving.{no-later}
 use Rattle.protocol.proofs.sections.Lines.{Room, room, the-line}
@@ -87,7 +87,7 @@ returns-then-not-is_of c =
     let word : says_of s (split 9 (line_at a.text.now l.here.at)) ≡ false =
     subst (λ (b : List ℕ). says_of s (split 9 b) ≡ false) same (sym c.is_of.ensures ∙ c.if-not-is_of.true) in
     going-behind a.text.now a.from a.t.now l.here.at l.here.line l.t c.loop-here-test.true a.section l.invariant word c.behind.result
-    (subst (λ (b : List ℕ). Behind s b l.here c.behind.result) same c.behind.ensures)
+    (subst (λ (b : List ℕ). LineBehind s b l.here c.behind.result) same c.behind.ensures)
 
 pub returns : goal.returns
 returns c =
