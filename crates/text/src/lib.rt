@@ -57,7 +57,7 @@ pub fn find(text: &[u8], b: u8, from: usize, to: usize) -> usize
     to
 }
 
-// How many bytes of the text are b. A `for`: `filter` and `count` take twice the time.
+// How many bytes of the text are b. A `for`: `filter` and `count` take two to three times as long.
 pub fn count(text: &[u8], b: u8) -> usize
     ensures { result ≡ how_many b text.now }
 {
