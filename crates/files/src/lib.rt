@@ -64,7 +64,7 @@ pub struct Text {
 }
 
 impl Text {
-    // The bytes that are left of an input. Within its caller it hands the room on once less.
+    // The bytes that are left of an input. Put into its caller, so that the room is copied once less.
     #[inline(always)]
     pub fn of_input<R: Read>(input: &mut R) -> Text
         ensures in_bounds { result.count ≤ length result.bytes }
@@ -78,7 +78,7 @@ impl Text {
         text
     }
 
-    // The bytes of a file; none where it cannot be opened. Within its caller, as of_input.
+    // The bytes of a file; none where it cannot be opened. Put into its caller, as of_input is.
     #[inline(always)]
     pub fn of_file<F: Files>(files: &F, name: &[u8]) -> Text
         ensures in_bounds { result.count ≤ length result.bytes }

@@ -66,6 +66,6 @@ misplaced-determined k line w r s p q = go (section_of (split 9 line)) refl
     go cell e = absurd (not_in cell (split 9 line) w e)
     go unknown e = sym (p.no_section e t) ∙ q.no_section e t
 
--- so is the refusal itself, by its reason: what is told of it leaves one
+-- and so the refusal itself: two of which the same is told are one
 pub misplaced-result-determined : (k : ℕ) (line : List ℕ) → says (split 9 line) 0 cell_word ≡ false → Determines (λ (r : Refused). Misplaced k line (told_refusal r))
 misplaced-result-determined k line w r s p q = told-injective r s (misplaced-determined k line w (told_refusal r) (told_refusal s) p q)

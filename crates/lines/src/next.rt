@@ -12,7 +12,7 @@ pub struct NextLine<'a> {
     pub line: Record<'a>,
 }
 
-// The line that starts at a place. A call of its own: within the loop of a section its searches take up to three times as long.
+// The line that starts at a place. Never put into its caller: in the loop of a section its searches take up to three times as long.
 #[inline(never)]
 pub fn next_line(text: &[u8], at: usize) -> NextLine
     requires { Lined text.now at × (at < length text.now) }

@@ -175,18 +175,19 @@ module _ (b : ℕ) (text : List ℕ) where
 -- ---- how many there are
 
 module _ (b : ℕ) where
-  -- from a place on
-  pub many-next : (text : List ℕ) (i : ℕ) → i < length text → get_or text i 0 ≡ b → how_many b (drop i text) ≡ suc (how_many b (drop (i + 1) text))
+  -- from a place on: the byte there counts where it is b
+  many-step : (text : List ℕ) (i : ℕ) → i < length text → (t : Bool) → eqb (get_or text i 0) b ≡ t
+      → how_many b (drop i text) ≡ cond t (suc (how_many b (drop (i + 1) text))) (how_many b (drop (i + 1) text))
   unfolding how_many
-  many-next text i h e =
+  many-step text i h t e =
       rw add-one (ap (how_many b) (drop-cons text i 0 h)
-      ∙ ap (λ (t : Bool). cond t (suc (how_many b (drop (suc i) text))) (how_many b (drop (suc i) text))) (eq-eqb (get_or text i 0) b e))
+      ∙ ap (λ (u : Bool). cond u (suc (how_many b (drop (suc i) text))) (how_many b (drop (suc i) text))) e)
+
+  pub many-next : (text : List ℕ) (i : ℕ) → i < length text → get_or text i 0 ≡ b → how_many b (drop i text) ≡ suc (how_many b (drop (i + 1) text))
+  many-next text i h e = many-step text i h true (eq-eqb (get_or text i 0) b e)
 
   pub many-other : (text : List ℕ) (i : ℕ) → i < length text → (get_or text i 0 ≡ b → ⊥) → how_many b (drop i text) ≡ how_many b (drop (i + 1) text)
-  unfolding how_many
-  many-other text i h e =
-      rw add-one (ap (how_many b) (drop-cons text i 0 h)
-      ∙ ap (λ (t : Bool). cond t (suc (how_many b (drop (suc i) text))) (how_many b (drop (suc i) text))) (ne_eqb (get_or text i 0) b e))
+  many-other text i h e = many-step text i h false (ne_eqb (get_or text i 0) b e)
 
   pub many-end : (text : List ℕ) (i : ℕ) → length text ≤ i → how_many b (drop i text) ≡ 0
   unfolding how_many
